@@ -1,0 +1,84 @@
+-- "Chain": the model that a file states, and its uniformized chain. What follows the bytes speaks of a Model and not of bytes.
+use Prim.Native.Nat.{ℕ, _+_, _*_, _-_, _/_, _%_, max}
+use mathlib.Core.List.{List}
+use mathlib.Core.Bool.{Bool, true, false, _&&_}
+use lib.ListN.{getD}
+use lib.Dec.{eqb, ltb}
+use Rattle.definitions.specs.Sums.{sum, largest, firsts, pick}
+use Rattle.definitions.specs.File.{stateCount, highestMoment, toleranceField, timeField, rewardField, rateField}
+
+-- M, R, ε in billionths, T in hours, f, and the rates between two different states
+pub record Model : Type 0 where
+  pub states : ℕ
+  pub highest : ℕ
+  pub tolerance : ℕ
+  pub time : ℕ
+  pub reward : ℕ → ℕ
+  pub rate : ℕ → ℕ → ℕ
+
+-- the model that a file's bytes state
+abbrev pub modelOf : List ℕ → Model
+modelOf s =
+    record {
+      states = stateCount s;
+      highest = highestMoment s;
+      tolerance = toleranceField s;
+      time = timeField s;
+      reward = rewardField s;
+      rate = rateField s;
+    }
+
+-- the rate from i to another state j, and 0 at j = i, which the file does not hold
+unfoldable pub jumpRate : Model → ℕ → ℕ → ℕ
+jumpRate m i j = pick (eqb j i) 0 (m .rate i j)
+
+-- row i's sum
+unfoldable pub rowSum : Model → ℕ → ℕ
+rowSum m i = sum (m .states) (jumpRate m i)
+
+-- E, the uniformization rate: the largest row sum, or 1 where all row sums are 0
+unfoldable pub uniformRate : Model → ℕ
+uniformRate m = max 1 (largest (m .states) (rowSum m))
+
+-- c(i,j): the rate from i to j; on the diagonal E less row i's sum
+unfoldable pub c : Model → ℕ → ℕ → ℕ
+c m i j = pick (eqb j i) (uniformRate m - rowSum m i) (m .rate i j)
+
+-- F, the largest reward rate
+unfoldable pub maxReward : Model → ℕ
+maxReward m = largest (m .states) (m .reward)
+
+-- X = E × T: the expected jump count q in millionths
+unfoldable pub jumpMillionths : Model → ℕ
+jumpMillionths m = uniformRate m * m .time
+
+-- what the steps need of a model: M, E, c, f and F. The steps speak of a Chain alone.
+pub record Chain : Type 0 where
+  pub states : ℕ
+  pub rate : ℕ
+  pub entry : ℕ → ℕ → ℕ
+  pub reward : ℕ → ℕ
+  pub largestReward : ℕ
+
+-- the uniformized chain of a model
+abbrev pub chainOf : Model → Chain
+chainOf m = record { states = m .states; rate = uniformRate m; entry = c m; reward = m .reward; largestReward = maxReward m }
+
+-- a vector for 64 states: v at the states below M, 0 past them
+unfoldable pub padded : ℕ → (ℕ → ℕ) → List ℕ
+padded M v = firsts 64 (λ i. pick (ltb i M) (v i) 0)
+
+-- c as one array of 64 rows of 64 entries, row after row: 0 past M
+unfoldable pub flat : Chain → List ℕ
+flat ch = firsts 4096 (λ k. pick (ltb (k / 64) (ch .states) && ltb (k % 64) (ch .states)) (ch .entry (k / 64) (k % 64)) 0)
+
+-- the chain that stands in arrays: f for 64 states, and c as 64 rows of 64 entries
+abbrev pub arrays : ℕ → ℕ → List ℕ → List ℕ → ℕ → Chain
+arrays M E c f F =
+    record {
+      states = M;
+      rate = E;
+      entry = λ i j. getD c (i * 64 + j) 0;
+      reward = λ i. getD f i 0;
+      largestReward = F;
+    }

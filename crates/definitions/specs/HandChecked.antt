@@ -1,0 +1,115 @@
+-- "Hand-checked files": the ten starred entries, as one list and one statement over it. Beside them, and apart from the ten,
+-- the average of B and the places "Where hand solutions go wrong".
+use Prim.Native.Nat.{ℕ, _<_}
+use mathlib.Core.List.{List, [], _∷_, _++_}
+use mathlib.Core.Logic.{_≢_}
+use mathlib.Core.Path.{_≡_, refl}
+use native.Mathlib.Omega.{arith}
+use lib.ListN.{length, take, drop, getD, set, replicate}
+use lib.Dec.{lit<, ltb, leb, eqb}
+use Rattle.definitions.specs.declared.Judgement.{Judgement}
+use Rattle.definitions.specs.declared.Judgement.the-variants as judged
+use Rattle.definitions.specs.declared.Outcome.{Outcome}
+use Rattle.definitions.specs.declared.Outcome.the-variants as ended
+use Rattle.definitions.specs.Sums.{sum, largest, anyAbove, firsts, over, pick}
+use Rattle.definitions.specs.Bytes.{big}
+use Rattle.definitions.specs.Chain.{Model, modelOf, Chain, jumpRate, rowSum, uniformRate, c, maxReward, jumpMillionths, chainOf}
+use Rattle.definitions.specs.Rules.{rows, firstHeld, judgement}
+use Rattle.definitions.specs.Vectors.{ONE, rowMean, rewardShare, mix, nextEntry, firstVectors, nextVectors, U}
+use Rattle.definitions.specs.Weights.{mode, rightward, leftward, weight, weightSum}
+use Rattle.definitions.specs.Level.{tailBound, allowance, passes?, firstFrom, level}
+use Rattle.definitions.specs.Moment.{term, weighted, lastQuotient, weightedMean, moment, cell, modelLevel, answered, outcome, cellsAfter}
+use Rattle.definitions.specs.Fraction.{Same, ratio, total, power}
+use Rattle.definitions.specs.Average.{exactMean, exactShare, exactMix, exactFirst, exactNext, exactU, factorial, exactWeight, averageOf, average}
+use Rattle.definitions.specs.Sheet.{digit, digits, places, decimal, figure, momentLine, momentLines, levelLine, sheetOf, sheet}
+
+-- file A
+abbrev pub fileA : List ℕ
+fileA = 0x00 ∷ 0x0F ∷ 0x01 ∷ 0x01 ∷ 0x01 ∷ 0x00 ∷ 0x00 ∷ 0x27 ∷ 0x10 ∷ 0x00 ∷ 0x00 ∷ 0x00 ∷ 0x01 ∷ 0x00 ∷ 0x00 ∷ 0x00 ∷ 0x05 ∷ []
+
+-- file B
+abbrev pub fileB : List ℕ
+fileB =
+    0x00 ∷ 0x1B ∷ 0x01 ∷ 0x02 ∷ 0x02 ∷ 0x05 ∷ 0xF5 ∷ 0xE1 ∷ 0x00 ∷ 0x00 ∷ 0x00 ∷ 0x00 ∷ 0x01 ∷ 0x00 ∷ 0x00 ∷ 0x00
+    ∷ 0x01 ∷ 0x00 ∷ 0x00 ∷ 0x00 ∷ 0x00 ∷ 0x00 ∷ 0x0F ∷ 0x42 ∷ 0x40 ∷ 0x00 ∷ 0x0F ∷ 0x42 ∷ 0x40 ∷ []
+
+abbrev pub modelB : Model
+modelB = modelOf fileB
+
+abbrev pub chainB : Chain
+chainB = chainOf modelB
+
+-- B's X and ε
+abbrev pub XB : ℕ
+XB = jumpMillionths modelB
+
+abbrev pub εB : ℕ
+εB = modelB .tolerance
+
+-- an entry: a file with its level and all its moments; a file with the row that stops it; numbers of the paper beside those of the definitions
+pub data Entry : Type 0 where
+  calculated : List ℕ → ℕ → List ℕ → Entry
+  stopped : List ℕ → ℕ → Entry
+  numbers : List ℕ → List ℕ → Entry
+
+-- what an entry says of the definitions
+abbrev pub Holds : Entry → Type 0
+Holds (calculated s N moments) =
+    (outcome s (length moments) ≡ ended.Level N) × (cellsAfter (ended.Level N) s (replicate (length moments) 0) ≡ moments)
+Holds (stopped s k) = judgement s 512 ≡ judged.Refused k
+Holds (numbers paper ours) = ours ≡ paper
+
+abbrev pub AllHold : List Entry → Type 0
+AllHold [] = Unit {0}
+AllHold (e ∷ rest) = Holds e × AllHold rest
+
+-- the ten starred entries, in the paper's order
+abbrev pub starred : List Entry
+starred =
+    calculated fileA 1 (ONE ∷ [])
+    ∷ calculated fileB 3 (718749999999 ∷ 612499999999 ∷ 281249999999 ∷ 174999999999 ∷ [])
+    ∷ numbers (1000000000000000 ∷ 1000000000000000 ∷ 500000000000000 ∷ 166666666666666 ∷ []) (firsts 4 (weight XB))
+    ∷ numbers (250000000000001 ∷ 250000000000000 ∷ 0 ∷ []) (tailBound XB 2 ∷ allowance XB εB 2 ∷ pick (passes? XB εB 2) 1 0 ∷ [])
+    ∷ numbers (499999999999 ∷ 499999999999 ∷ []) (firsts 2 (U chainB 3 1))
+    ∷ numbers (499999999999 ∷ 166666666666 ∷ []) (firsts 2 (U chainB 2 2))
+    ∷ stopped (set fileB 16 0) 10
+    ∷ stopped (set (set fileB 2 9) 3 0) 3
+    ∷ stopped (set (set fileB 11 1) 12 1) 12
+    ∷ stopped (set fileB 8 1) 7
+    ∷ []
+
+pub hand-checked : AllHold starred
+unfolding sum largest anyAbove firsts over big jumpRate rowSum uniformRate c maxReward jumpMillionths rows firstHeld judgement rowMean rewardShare mix nextEntry firstVectors nextVectors U mode rightward leftward weight weightSum tailBound allowance passes? firstFrom level term weighted lastQuotient weightedMean moment cell modelLevel answered outcome cellsAfter
+hand-checked = ((refl, refl), ((refl, refl), (refl, (refl, (refl, (refl, (refl, (refl, (refl, (refl, tt))))))))))
+
+-- B's F is above 0
+pub rewardedB : 0 < maxReward modelB
+unfolding largest maxReward big
+rewardedB = lit< tt
+
+-- the average of B for r = 1 and L = 3: 23/32 at state 1 and 9/32 at state 2
+pub averagesB : Same (average modelB rewardedB 3 1 0) (ratio 23 32 (lit< tt)) × Same (average modelB rewardedB 3 1 1) (ratio 9 32 (lit< tt))
+unfolding sum largest big jumpRate rowSum uniformRate c maxReward jumpMillionths total power exactMean exactShare exactMix exactFirst exactNext exactU factorial exactWeight averageOf average
+averagesB = (record { cross = refl }, record { cross = refl })
+
+-- "Where hand solutions go wrong": the right values, U(1,1) at state 2 and U(1,2) at state 1, and that the wrong ones are not theirs
+pub right-values : (U chainB 1 1 1 ≡ 500000000000) × (U chainB 1 2 0 ≡ 333333333333)
+unfolding sum largest big jumpRate rowSum uniformRate c maxReward rowMean rewardShare mix nextEntry firstVectors nextVectors U
+right-values = (refl, refl)
+
+pub wrong-values : (U chainB 1 1 1 ≢ 250000000000) × (U chainB 1 2 0 ≢ 666666666666)
+wrong-values = (omega (arith, right-values .0), omega (arith, right-values .1))
+
+-- B's printed sheet, as document 01 shows it
+abbrev pub sheetB : List ℕ
+sheetB =
+    108 ∷ 101 ∷ 118 ∷ 101 ∷ 108 ∷ 32 ∷ 51 ∷ 10
+    ∷ 49 ∷ 32 ∷ 49 ∷ 32 ∷ 48 ∷ 46 ∷ 55 ∷ 49 ∷ 56 ∷ 55 ∷ 52 ∷ 57 ∷ 57 ∷ 57 ∷ 57 ∷ 57 ∷ 57 ∷ 57 ∷ 10
+    ∷ 49 ∷ 32 ∷ 50 ∷ 32 ∷ 48 ∷ 46 ∷ 54 ∷ 49 ∷ 50 ∷ 52 ∷ 57 ∷ 57 ∷ 57 ∷ 57 ∷ 57 ∷ 57 ∷ 57 ∷ 57 ∷ 10
+    ∷ 50 ∷ 32 ∷ 49 ∷ 32 ∷ 48 ∷ 46 ∷ 50 ∷ 56 ∷ 49 ∷ 50 ∷ 52 ∷ 57 ∷ 57 ∷ 57 ∷ 57 ∷ 57 ∷ 57 ∷ 57 ∷ 10
+    ∷ 50 ∷ 32 ∷ 50 ∷ 32 ∷ 48 ∷ 46 ∷ 49 ∷ 55 ∷ 52 ∷ 57 ∷ 57 ∷ 57 ∷ 57 ∷ 57 ∷ 57 ∷ 57 ∷ 57 ∷ 57 ∷ 10
+    ∷ []
+
+pub sheet-of-B : sheet fileB ≡ sheetB
+unfolding sum largest anyAbove firsts over big jumpRate rowSum uniformRate c maxReward jumpMillionths rows firstHeld judgement rowMean rewardShare mix nextEntry firstVectors nextVectors U mode rightward leftward weight weightSum tailBound allowance passes? firstFrom level term weighted lastQuotient weightedMean moment cell modelLevel answered outcome cellsAfter digit digits places decimal figure momentLine momentLines levelLine sheetOf sheet
+sheet-of-B = refl

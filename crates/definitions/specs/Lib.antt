@@ -1,0 +1,16 @@
+-- Document 01 as definitions, a module for each of its sections, in its order.
+-- The paper counts states from 1. Here states and cells are counted from 0: the paper's state i is i − 1 here. Moments r are counted from 1 in both.
+pub mod Sums
+pub mod Bytes
+pub mod File
+pub mod Chain
+pub mod Rules
+pub mod Vectors
+pub mod Weights
+pub mod Level
+pub mod Moment
+pub mod Fraction
+pub mod Average
+pub mod Promise
+pub mod Sheet
+pub mod HandChecked

@@ -1,0 +1,70 @@
+-- "Moment": A, the last quotient, the cells after a call, and its outcome.
+use Prim.Native.Nat.{ℕ, suc, _+_, _*_, _-_, _/_, _%_}
+use mathlib.Core.List.{List}
+use mathlib.Core.Bool.{Bool, true, false}
+use lib.ListN.{length}
+use Rattle.definitions.specs.declared.Judgement.{Judgement}
+use Rattle.definitions.specs.declared.Judgement.the-variants as judged
+use Rattle.definitions.specs.declared.Outcome.{Outcome}
+use Rattle.definitions.specs.declared.Outcome.the-variants as ended
+use Rattle.definitions.specs.Sums.{sum, over}
+use Rattle.definitions.specs.Chain.{Model, modelOf, chainOf, jumpMillionths}
+use Rattle.definitions.specs.Rules.{judgement}
+use Rattle.definitions.specs.Vectors.{ONE, U}
+use Rattle.definitions.specs.Weights.{weight, weightSum}
+use Rattle.definitions.specs.Level.{level}
+
+-- one term of A: w × u over 10^12, down
+unfoldable pub term : ℕ → ℕ → ℕ
+term w u = w * u / ONE
+
+-- A: the sum for n = 0 to N of the terms of w(n) and u(n)
+unfoldable pub weighted : ℕ → (ℕ → ℕ) → ℕ → ℕ
+weighted X u N = sum (suc N) (λ n. term (weight X n) (u n))
+
+-- the last quotient: A × 10^12 over S(N), down
+unfoldable pub lastQuotient : ℕ → ℕ → ℕ
+lastQuotient a s = a * ONE / s
+
+-- the weighted mean of u(0), …, u(N), in ticks
+unfoldable pub weightedMean : ℕ → (ℕ → ℕ) → ℕ → ℕ
+weightedMean X u N = lastQuotient (weighted X u N) (weightSum X N)
+
+-- the moment r of state i, in ticks, at level N: the weighted mean of U(n,r) at i
+unfoldable pub moment : Model → ℕ → ℕ → ℕ → ℕ
+moment m N r i = weightedMean (jumpMillionths m) (λ n. U (chainOf m) n r i) N
+
+-- (i − 1) × R + (r − 1): the cell of state i, counted from 0 here, and moment r
+unfoldable pub cellOf : Model → ℕ → ℕ → ℕ
+cellOf m i r = i * m .highest + (r - 1)
+
+-- what stands in cell k: the moment of the state and the r whose cell it is
+unfoldable pub cell : Model → ℕ → ℕ → ℕ
+cell m N k = moment m N (k % m .highest + 1) (k / m .highest)
+
+-- the level of a model
+unfoldable pub modelLevel : Model → ℕ
+modelLevel m = level (jumpMillionths m) (m .tolerance)
+
+-- what a call answers of the file s lent with a number of cells: the first row that holds, or the level
+unfoldable pub answered : Judgement → List ℕ → Outcome
+answered judged.Accepted s = ended.Level (modelLevel (modelOf s))
+answered (judged.Refused k) s = ended.Refused k
+
+unfoldable pub outcome : List ℕ → ℕ → Outcome
+outcome s cells = answered (judgement s cells) s
+
+-- document 01's number for each case of an outcome: the level of an acceptance, the row of a refusal
+unfoldable pub numberOf : Outcome → ℕ
+numberOf (ended.Level n) = n
+numberOf (ended.Refused k) = k
+
+-- whether an outcome is an acceptance; no refusal is one, whatever its number
+unfoldable pub accepts : Outcome → Bool
+accepts (ended.Level n) = true
+accepts (ended.Refused k) = false
+
+-- document 01's values for each case of an outcome: all answer cells after the call, from those before it
+unfoldable pub cellsAfter : Outcome → List ℕ → List ℕ → List ℕ
+cellsAfter (ended.Level n) s cells = over (modelOf s .states * modelOf s .highest) (cell (modelOf s) n) cells
+cellsAfter (ended.Refused k) s cells = cells

@@ -1,0 +1,44 @@
+-- "Reward vectors": U(n,r), the conditional moments in ticks.
+use Prim.Native.Nat.{ℕ, zero, suc, _+_, _*_, _/_}
+use mathlib.Core.List.{List}
+use Rattle.definitions.specs.Sums.{sum}
+use Rattle.definitions.specs.Chain.{Chain, padded}
+
+-- ONE: 10^12 ticks
+abbrev pub ONE : ℕ
+ONE = 1000000000000
+
+-- V, the row mean of a vector v at i: the sum over j of c(i,j) × v(j), over E, down
+unfoldable pub rowMean : Chain → (ℕ → ℕ) → ℕ → ℕ
+rowMean ch v i = sum (ch .states) (λ j. ch .entry i j * v j) / ch .rate
+
+-- W, the reward share of x ticks at i: f(i) × x, over F, down
+unfoldable pub rewardShare : Chain → ℕ → ℕ → ℕ
+rewardShare ch x i = ch .reward i * x / ch .largestReward
+
+-- (n × V + r × W) over (n + r), down
+unfoldable pub mix : ℕ → ℕ → ℕ → ℕ → ℕ
+mix n r v w = (n * v + r * w) / (n + r)
+
+-- U(n,r) at i for n, r ≥ 1, where before is U(n−1,r) and same is U(n,r−1)
+unfoldable pub nextEntry : Chain → ℕ → ℕ → (ℕ → ℕ) → (ℕ → ℕ) → ℕ → ℕ
+nextEntry ch n r before same i = mix n r (rowMean ch before i) (rewardShare ch (same i) i)
+
+-- U(0,r) at i
+unfoldable pub firstVectors : Chain → ℕ → ℕ → ℕ
+firstVectors ch zero i = ONE
+firstVectors ch (suc r) i = rewardShare ch (firstVectors ch r i) i
+
+-- U(n,r) at i for n ≥ 1, where before is U(n−1,·)
+unfoldable pub nextVectors : Chain → ℕ → (ℕ → ℕ → ℕ) → ℕ → ℕ → ℕ
+nextVectors ch n before zero i = ONE
+nextVectors ch n before (suc r) i = nextEntry ch n (suc r) (before (suc r)) (nextVectors ch n before r) i
+
+-- U(n,r) at i
+unfoldable pub U : Chain → ℕ → ℕ → ℕ → ℕ
+U ch zero = firstVectors ch
+U ch (suc n) = nextVectors ch (suc n) (U ch n)
+
+-- U(n,r) as a vector for 64 states
+unfoldable pub vector : Chain → ℕ → ℕ → List ℕ
+vector ch n r = padded (ch .states) (U ch n r)

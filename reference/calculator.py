@@ -1,0 +1,300 @@
+#!/usr/bin/env python3
+"""Reference calculator: moments of the accumulated reward of a repairable system.
+
+Written from document 01 alone, in plain whole numbers, with the paper's letters.
+Reads a model file from standard input and prints its sheet:
+
+    python3 reference/calculator.py < examples/B.model
+
+Python's whole numbers have no upper limit, so the paper's helper
+"Multiply, then divide" is not needed here: a * b // c is that quotient.
+"""
+
+import sys
+from collections import namedtuple
+from fractions import Fraction
+from operator import mul
+
+ONE = 10**12          # ticks: the unit of every moment is 10^-12
+TOP_WEIGHT = 10**15   # w(m); weights are in units of 10^-15
+MILLION = 10**6       # rates are in millionths per hour
+BILLION = 10**9       # the tolerance is in billionths
+READ_LIMIT = 16398    # bytes the program reads at most
+LENT_CELLS = 512      # answer cells the program lends
+LEVEL_LIMIT = 1024    # the level is never above this
+
+# M states, highest moment R, tolerance epsilon, time T, reward rates f with the largest F,
+# rows c of the uniformized chain with uniformization rate E, and X = E * T.
+Model = namedtuple("Model", "M R epsilon T f F c E X")
+
+
+# --- The model file -------------------------------------------------------------------------
+
+def number(file, start, size):
+    """The unsigned big-endian number in `size` bytes from byte `start`."""
+    return int.from_bytes(file[start:start + size], "big")
+
+
+def read_rewards(file, M):
+    """The M reward rates, from byte 13."""
+    return [number(file, 13 + 4 * i, 4) for i in range(M)]
+
+
+def read_rates(file, M):
+    """Row i: the M - 1 rates from state i to each other state, the diagonal left out."""
+    first = 13 + 4 * M
+    row_size = 4 * (M - 1)
+    return [[number(file, first + i * row_size + 4 * k, 4) for k in range(M - 1)] for i in range(M)]
+
+
+def uniformization_rate(rates):
+    """E: the largest row sum, or 1 where all row sums are 0."""
+    return max(sum(row) for row in rates) or 1
+
+
+def refusal(file, cells):
+    """The number of the first row of the refusal table that holds, or 0 where none holds."""
+    if len(file) < 13:
+        return 1
+    length = number(file, 0, 2)
+    if length != len(file) - 2:
+        return 2
+    if file[2] != 1:
+        return 3
+    M, R = file[3], file[4]
+    if M == 0 or M > 64:
+        return 4
+    if R == 0 or R > 8:
+        return 5
+    if length != 4 * M * M + 11:
+        return 6
+    epsilon = number(file, 5, 4)
+    if epsilon == 0 or epsilon > 100_000_000:
+        return 7
+    T = number(file, 9, 4)
+    if T == 0:
+        return 8
+    f = read_rewards(file, M)
+    if max(f) > 1_000_000:
+        return 9
+    if max(f) == 0:
+        return 10
+    rates = read_rates(file, M)
+    if max(sum(row) for row in rates) > 10_000_000:
+        return 11
+    if uniformization_rate(rates) * T > 256_000_000:
+        return 12
+    if cells < M * R:
+        return 13
+    return 0
+
+
+def read_model(file):
+    """The model of a file that is not refused."""
+    M, R = file[3], file[4]
+    f = read_rewards(file, M)
+    rates = read_rates(file, M)
+    E = uniformization_rate(rates)
+    T = number(file, 9, 4)
+    # c(i,i) is E less row i's sum; before it the rates to j < i, after it those to j > i.
+    c = [row[:i] + [E - sum(row)] + row[i:] for i, row in enumerate(rates)]
+    return Model(M, R, number(file, 5, 4), T, f, max(f), c, E, E * T)
+
+
+# --- Reward vectors: conditional moments in ticks ---------------------------------------------
+
+def first_vectors(model):
+    """[U(0,0), ..., U(0,R)], each a vector with one number of ticks per state."""
+    vectors = [[ONE] * model.M]
+    for _ in range(model.R):
+        vectors.append([f * u // model.F for f, u in zip(model.f, vectors[-1])])
+    return vectors
+
+
+def row_means(model, vector):
+    """V at every state: the sum over j of c(i,j) * U(n-1,r) at j, over E, down."""
+    return [sum(map(mul, row, vector)) // model.E for row in model.c]
+
+
+def next_vectors(model, n, before):
+    """[U(n,0), ..., U(n,R)] for n >= 1, from before = [U(n-1,0), ..., U(n-1,R)]."""
+    vectors = [[ONE] * model.M]
+    for r in range(1, model.R + 1):
+        V = row_means(model, before[r])
+        W = [f * u // model.F for f, u in zip(model.f, vectors[r - 1])]
+        vectors.append([(n * v + r * w) // (n + r) for v, w in zip(V, W)])
+    return vectors
+
+
+def reward_vectors(model, last, memo=None):
+    """The list U with U[n][r][i] for n = 0 to last; a memo kept by the caller is lengthened."""
+    U = [] if memo is None else memo
+    if not U:
+        U.append(first_vectors(model))
+    while len(U) <= last:
+        U.append(next_vectors(model, len(U), U[-1]))
+    return U
+
+
+# --- Poisson weights and truncation level -----------------------------------------------------
+
+def weights(X, last):
+    """[w(0), ..., w(last)], for last >= m, where m is q = X / 1,000,000 rounded down."""
+    m = X // MILLION
+    w = [0] * (last + 1)
+    w[m] = TOP_WEIGHT
+    for n in range(m, last):
+        w[n + 1] = w[n] * X // ((n + 1) * MILLION)
+    for n in range(m, 0, -1):
+        w[n - 1] = w[n] * n * MILLION // X
+    return w
+
+
+def tail(w, X, n):
+    """t, which bounds the weights right of n, for n * 1,000,000 >= X."""
+    m = X // MILLION
+    return 1 + (w[n] + n - m) * X // ((n + 1) * MILLION - X)
+
+
+def level(X, epsilon):
+    """N: the least n with n * 1,000,000 >= X and t <= S(n) * epsilon over 10^9 (down)."""
+    w = weights(X, LEVEL_LIMIT)
+    S = 0
+    for n in range(LEVEL_LIMIT + 1):
+        S += w[n]
+        if n * MILLION >= X and tail(w, X, n) <= S * epsilon // BILLION:
+            return n
+    raise ArithmeticError("no level up to 1,024: document 01 says one always exists")
+
+
+# --- Moments -----------------------------------------------------------------------------------
+
+def moment(w, U, N, i, r):
+    """The moment r at state i (counted from 0 here), in ticks."""
+    A = sum(w[n] * U[n][r][i] // ONE for n in range(N + 1))
+    return A * ONE // sum(w[:N + 1])
+
+
+def outcome(file, cells):
+    """("refused", k) or ("level", N) for a file and a count of answer cells."""
+    k = refusal(file, cells)
+    if k:
+        return ("refused", k)
+    model = read_model(file)
+    return ("level", level(model.X, model.epsilon))
+
+
+def calculate(file, cells):
+    """The outcome of a file; where it is accepted, cells 0 to M * R - 1 take the moments."""
+    result = outcome(file, len(cells))
+    if result[0] == "refused":
+        return result
+    N = result[1]
+    model = read_model(file)
+    w = weights(model.X, N)
+    U = reward_vectors(model, N)
+    for i in range(1, model.M + 1):
+        for r in range(1, model.R + 1):
+            cells[(i - 1) * model.R + (r - 1)] = moment(w, U, N, i - 1, r)
+    return result
+
+
+# --- The printed sheet -------------------------------------------------------------------------
+
+def sheet(file):
+    """The program's output for an input: judged on the bytes it reads, 512 cells lent."""
+    file = file[:READ_LIMIT]
+    cells = [0] * LENT_CELLS
+    word, value = calculate(file, cells)
+    lines = [f"{word} {value}"]
+    if word == "level":
+        M, R = file[3], file[4]
+        for i in range(1, M + 1):
+            for r in range(1, R + 1):
+                ticks = cells[(i - 1) * R + (r - 1)]
+                lines.append(f"{i} {r} {ticks // ONE}.{ticks % ONE:012d}")
+    return "".join(line + "\n" for line in lines).encode("ascii")
+
+
+# --- Exact average: fractions, nothing rounded ---------------------------------------------------
+
+def exact_first(model):
+    """[u(0,0), ..., u(0,R)] as fractions."""
+    vectors = [[Fraction(1)] * model.M]
+    for _ in range(model.R):
+        vectors.append([Fraction(f, model.F) * u for f, u in zip(model.f, vectors[-1])])
+    return vectors
+
+
+def exact_next(model, n, before):
+    """[u(n,0), ..., u(n,R)] for n >= 1, from before = [u(n-1,0), ..., u(n-1,R)]."""
+    vectors = [[Fraction(1)] * model.M]
+    for r in range(1, model.R + 1):
+        v = [sum(map(mul, row, before[r])) / model.E for row in model.c]
+        z = [Fraction(f, model.F) * u for f, u in zip(model.f, vectors[r - 1])]
+        vectors.append([(n * a + r * b) / (n + r) for a, b in zip(v, z)])
+    return vectors
+
+
+def averages(model, levels):
+    """{L: rows}: rows[i][r - 1] is the exact average up to level L at state i (from 0), for r."""
+    q = Fraction(model.X, MILLION)
+    weight = Fraction(1)                      # q^n / n!
+    total = Fraction(0)                       # sum of the weights so far
+    sums = [[Fraction(0)] * model.R for _ in range(model.M)]
+    result = {}
+    for n in range(max(levels) + 1):
+        if n == 0:
+            u = exact_first(model)
+        else:
+            u = exact_next(model, n, u)
+            weight = weight * q / n
+        total += weight
+        for i in range(model.M):
+            for r in range(1, model.R + 1):
+                sums[i][r - 1] += weight * u[r][i]
+        if n in levels:
+            result[n] = [[s / total for s in row] for row in sums]
+    return result
+
+
+def average(model, L, i, r):
+    """The exact average up to level L at state i (counted from 1) and for r."""
+    return averages(model, [L])[L][i - 1][r - 1]
+
+
+# --- The program -----------------------------------------------------------------------------------
+
+def read_input(arguments):
+    """At most READ_LIMIT bytes, of the named file or of standard input."""
+    if arguments:
+        with open(arguments[0], "rb") as source:
+            return source.read(READ_LIMIT)
+    if sys.stdin is None:
+        raise OSError("standard input is closed")
+    return sys.stdin.buffer.read(READ_LIMIT)
+
+
+def main(arguments):
+    if len(arguments) > 1 or (arguments and arguments[0].startswith("-")):
+        print("calculator: at most one argument, the name of a model file", file=sys.stderr)
+        return 2
+    try:
+        file = read_input(arguments)
+    except (OSError, ValueError) as error:
+        print(f"calculator: cannot read the model: {error}", file=sys.stderr)
+        return 2
+    output = sheet(file)
+    try:
+        if sys.stdout is None:
+            raise OSError("standard output is closed")
+        sys.stdout.buffer.write(output)
+        sys.stdout.buffer.flush()
+    except OSError as error:
+        print(f"calculator: cannot write the sheet: {error}", file=sys.stderr)
+        return 2
+    return 0
+
+
+if __name__ == "__main__":
+    sys.exit(main(sys.argv[1:]))

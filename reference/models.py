@@ -1,0 +1,656 @@
+#!/usr/bin/env python3
+"""Generated model files for the calculator, from a seed.
+
+valid_models(seed, count)    files that are accepted, over the whole range of document 01
+damaged_models(seed, count)  files that reach rows 1 to 12 of the refusal table, the accepted
+                             side of each border, and random bytes
+few_cells_models(seed, count)  accepted files with a count of cells at the border of row 13
+
+    python3 reference/models.py --seed 1 --count 20 --out DIR
+"""
+
+import argparse
+import os
+import random
+import sys
+
+MAX_TOLERANCE = 100_000_000
+MAX_REWARD = 1_000_000
+MAX_ROW_SUM = 10_000_000
+MAX_X = 256_000_000
+MAX_WORD = 2**32 - 1
+
+# X, n and a tolerance for which the level stands on a knife's edge: at n, t is equal to the
+# number it is set against (first two), or the term n - m alone keeps n from being the level.
+LEVEL_EDGES = [
+    (47_075, 2, 16_852), (5_499_024, 23, 5),
+    (5_547_778, 12, 5_171_700), (35_194_131, 55, 787_354), (99_998_931, 158, 34),
+    (149_189_150, 226, 2), (215_828_508, 238, 85_410_958), (235_416_209, 307, 3_622),
+]
+
+
+# --- Bytes ----------------------------------------------------------------------------------
+
+def build(version, M, R, eps, T, rewards, rates, length=None):
+    """The bytes of a model file. rates holds one row per state: the rates to each other
+    state, j rising, the diagonal left out. The length field is right unless it is given."""
+    body = bytes([version, M, R]) + eps.to_bytes(4, "big") + T.to_bytes(4, "big")
+    body += b"".join(f.to_bytes(4, "big") for f in rewards)
+    body += b"".join(rate.to_bytes(4, "big") for row in rates for rate in row)
+    if length is None:
+        length = len(body)
+    return length.to_bytes(2, "big") + body
+
+
+def relength(file):
+    """The file with its length field set to the bytes that follow it."""
+    return (len(file) - 2).to_bytes(2, "big") + file[2:]
+
+
+def valid(M, R, eps, T, rewards, rates):
+    """The fields of an accepted file, to be changed one by one and then built."""
+    return dict(version=1, M=M, R=R, eps=eps, T=T, rewards=rewards, rates=rates)
+
+
+# --- Random parts -----------------------------------------------------------------------------
+
+def log_uniform(rng, low, high):
+    """A whole number from low to high, each order of magnitude about as likely."""
+    return max(low, min(high, int(low * (high / low) ** rng.random() + 0.5)))
+
+
+def split(rng, total, parts):
+    """`parts` whole numbers of at least 0 that sum to total."""
+    cuts = sorted(rng.randint(0, total) for _ in range(parts - 1))
+    return [b - a for a, b in zip([0] + cuts, cuts + [total])]
+
+
+def row_to(rng, M, total, fill):
+    """M - 1 rates that sum to total, over about the share `fill` of the other states."""
+    row = [0] * (M - 1)
+    if M > 1 and total > 0:
+        count = max(1, min(M - 1, round(fill * (M - 1))))
+        for place, part in zip(rng.sample(range(M - 1), count), split(rng, total, count)):
+            row[place] = part
+    return row
+
+
+def random_rates(rng, M, E, fill=1.0, absorbing=0.1):
+    """Rows with the largest sum exactly E (for M > 1), and the others anywhere up to E."""
+    busiest = rng.randrange(M)
+    rates = []
+    for i in range(M):
+        if i == busiest:
+            total = E
+        elif rng.random() < absorbing:
+            total = 0
+        else:
+            total = rng.choice([E, rng.randint(0, E), log_uniform(rng, 1, E)])
+        rates.append(row_to(rng, M, total, fill))
+    return rates
+
+
+def random_rewards(rng, M, top=None):
+    """M reward rates, not all 0, the largest of them exactly `top` where it is given."""
+    if top is None:
+        top = rng.choice([1, 2, 7, 999_983, MAX_REWARD, log_uniform(rng, 1, MAX_REWARD)])
+    rewards = [rng.choice([0, top, rng.randint(0, top), rng.randint(0, top)]) for _ in range(M)]
+    rewards[rng.randrange(M)] = top
+    return rewards
+
+
+def random_tolerance(rng):
+    return rng.choice([1, MAX_TOLERANCE, log_uniform(rng, 1, MAX_TOLERANCE)])
+
+
+def random_time(rng, E):
+    """A time with E * T in the limit."""
+    most = MAX_X // E
+    return rng.choice([1, most, log_uniform(rng, 1, most), log_uniform(rng, 1, most)])
+
+
+def factors(X):
+    """E and T with E * T = X, E as large as its limit lets it be."""
+    T = next(T for T in range(1, X + 1) if X % T == 0 and X // T <= MAX_ROW_SUM)
+    return X // T, T
+
+
+def fields_for(rng, M, E, T, R=None, eps=None, rewards=None, fill=None):
+    """The fields of a random accepted file with the uniformization rate E (1 where M = 1)."""
+    if fill is None:
+        fill = rng.choice([0.2, 0.5, 1.0])
+    return valid(M, R or rng.randint(1, 8), eps or random_tolerance(rng), T,
+                 rewards or random_rewards(rng, M), random_rates(rng, M, E, fill))
+
+
+def small_fields(rng, low=1, high=5):
+    """A random accepted file of few states, with a moderate level: the base for damage."""
+    M = rng.randint(low, high)
+    E = log_uniform(rng, 1, 1_000_000)
+    T = log_uniform(rng, 1, max(1, 20_000_000 // E))
+    return fields_for(rng, M, E, T)
+
+
+# --- Kinds of valid models ----------------------------------------------------------------------
+
+def one_state(rng):
+    return fields_for(rng, 1, 1, random_time(rng, 1))
+
+
+def tiny(rng):
+    E = log_uniform(rng, 1, MAX_ROW_SUM)
+    return fields_for(rng, rng.randint(2, 4), E, random_time(rng, E))
+
+
+def small(rng):
+    E = log_uniform(rng, 1, MAX_ROW_SUM)
+    return fields_for(rng, rng.randint(3, 10), E, random_time(rng, E))
+
+
+def absorbing_states(rng):
+    M, E = rng.randint(2, 7), log_uniform(rng, 1, MAX_ROW_SUM)
+    fields = fields_for(rng, M, E, random_time(rng, E))
+    fields["rates"] = random_rates(rng, M, E, 0.6, absorbing=0.6)
+    return fields
+
+
+def all_rates_zero(rng):
+    M = rng.randint(1, 6)
+    fields = fields_for(rng, M, 1, random_time(rng, 1))
+    fields["rates"] = [[0] * (M - 1) for _ in range(M)]
+    return fields
+
+
+def q_below_1(rng):
+    E = log_uniform(rng, 1, 999_999)
+    return fields_for(rng, rng.randint(2, 6), E, rng.randint(1, 999_999 // E))
+
+
+def q_whole_or_next(rng):
+    X = rng.randint(1, 9) * 1_000_000 + rng.choice([-1, 0, 1])
+    return fields_for(rng, rng.randint(2, 4), X, 1)
+
+
+def q_256(rng):
+    T = rng.choice([32, 40, 64, 100, 128, 256, 512, 1000, 256_000, 256_000_000])
+    return fields_for(rng, rng.randint(2, 6), MAX_X // T, T)
+
+
+def row_sum_largest(rng):
+    return fields_for(rng, rng.randint(2, 6), MAX_ROW_SUM, rng.choice([1, 2, 24, 25]))
+
+
+def reward_largest(rng):
+    M, E = rng.randint(1, 6), log_uniform(rng, 1, MAX_ROW_SUM)
+    return fields_for(rng, M, E, random_time(rng, E), rewards=random_rewards(rng, M, MAX_REWARD))
+
+
+def reward_in_one_state(rng):
+    M, E = rng.randint(2, 6), log_uniform(rng, 1, MAX_ROW_SUM)
+    rewards = [0] * M
+    rewards[rng.randrange(M)] = rng.choice([1, 3, MAX_REWARD])
+    return fields_for(rng, M, E, random_time(rng, E), rewards=rewards)
+
+
+def rewards_equal(rng):
+    M, E = rng.randint(2, 6), log_uniform(rng, 1, MAX_ROW_SUM)
+    return fields_for(rng, M, E, random_time(rng, E), rewards=[rng.randint(1, MAX_REWARD)] * M)
+
+
+def tolerance_smallest(rng):
+    E = log_uniform(rng, 1, MAX_ROW_SUM)
+    return fields_for(rng, rng.randint(2, 5), E, random_time(rng, E), eps=1)
+
+
+def tolerance_largest(rng):
+    E = log_uniform(rng, 1, MAX_ROW_SUM)
+    return fields_for(rng, rng.randint(2, 5), E, random_time(rng, E), eps=MAX_TOLERANCE)
+
+
+def time_longest(rng):
+    return fields_for(rng, rng.randint(2, 4), 1, MAX_X)
+
+
+def stiff_pair(rng):
+    """Two states, one left a million times as fast as the other."""
+    fields = fields_for(rng, 2, 1, rng.randint(1, 25), fill=1.0)
+    fields["rates"] = rng.sample([[rng.randint(1, 9)], [MAX_ROW_SUM - rng.randint(0, 9)]], 2)
+    return fields
+
+
+def units_with_one_crew(rng):
+    """Identical units with one repair crew; the reward is the number of working units."""
+    M = rng.randint(2, 9)
+    failure, repair = rng.randint(1, 100_000), rng.randint(1, 1_000_000)
+    rates = [[0] * (M - 1) for _ in range(M)]
+    for down in range(M):
+        if down < M - 1:
+            rates[down][down] = (M - 1 - down) * failure       # to down + 1
+        if down > 0:
+            rates[down][down - 1] = repair                     # to down - 1
+    E = max(map(sum, rates))
+    return valid(M, rng.randint(1, 8), random_tolerance(rng), random_time(rng, E),
+                 [M - 1 - down for down in range(M)], rates)
+
+
+def large_primes(rng):
+    """Divisors that leave remainders nearly everywhere."""
+    M = rng.randint(2, 6)
+    rewards = [rng.choice([999_983, 999_979, 999_961, 3]) for _ in range(M)]
+    return fields_for(rng, M, 9_999_991, rng.randint(1, 25), rewards=rewards, fill=1.0)
+
+
+def level_edge(rng):
+    X, _, eps = rng.choice(LEVEL_EDGES)
+    E, T = factors(X)
+    return fields_for(rng, rng.randint(2, 3), E, T, R=rng.randint(1, 2), eps=eps)
+
+
+def sparse(rng):
+    E = log_uniform(rng, 1, MAX_ROW_SUM)
+    return fields_for(rng, rng.randint(8, 16), E, random_time(rng, E), R=rng.randint(1, 3), fill=0.0)
+
+
+def dense(rng):
+    E = log_uniform(rng, 1, MAX_ROW_SUM)
+    return fields_for(rng, rng.randint(8, 14), E, random_time(rng, E), R=rng.randint(1, 4), fill=1.0)
+
+
+def medium(rng):
+    E = log_uniform(rng, 1_000, MAX_ROW_SUM)
+    T = rng.randint(1, max(1, 40_000_000 // E))
+    return fields_for(rng, rng.randint(17, 32), E, T, R=rng.randint(1, 4))
+
+
+def large(rng):
+    E = log_uniform(rng, 1_000, MAX_ROW_SUM)
+    T = rng.randint(1, max(1, 40_000_000 // E))
+    return fields_for(rng, rng.choice([63, 64, rng.randint(33, 64)]), E, T, R=rng.choice([1, 3, 8]))
+
+
+def heaviest(rng):
+    T = rng.choice([32, 64, 256])
+    return fields_for(rng, 64, MAX_X // T, T, R=8, eps=1, fill=1.0)
+
+
+SMALL_KINDS = [
+    one_state, tiny, small, absorbing_states, all_rates_zero, q_below_1, q_whole_or_next, q_256,
+    row_sum_largest, reward_largest, reward_in_one_state, rewards_equal, tolerance_smallest,
+    tolerance_largest, time_longest, stiff_pair, units_with_one_crew, large_primes, level_edge,
+    sparse, dense,
+]
+
+
+def valid_kind(index):
+    """The kind of the valid model number `index`: mostly small, now and then a larger one."""
+    if index % 120 == 47:
+        return heaviest
+    if index % 60 == 23:
+        return large
+    if index % 20 == 11:
+        return medium
+    return SMALL_KINDS[index % len(SMALL_KINDS)]
+
+
+def valid_models(seed, count):
+    """`count` accepted files, as (name, bytes)."""
+    rng = random.Random(seed)
+    for index in range(count):
+        kind = valid_kind(index)
+        yield f"{index:05d}-valid-{kind.__name__.replace('_', '-')}", build(**kind(rng))
+
+
+# --- Damage -----------------------------------------------------------------------------------
+# Each kind is (row, what, function of rng giving the bytes). Row 0 is the accepted side of a
+# border; row None is left to the calculator. The row is the one the program prints, which
+# judges the first 16,398 bytes.
+
+def changed(base=small_fields, **changes):
+    """A random accepted file with some fields changed; a change may be a function of rng."""
+    def make(rng):
+        fields = base(rng)
+        for name, value in changes.items():
+            fields[name] = value(rng) if callable(value) else value
+        return build(**fields)
+    return make
+
+
+def bytewise(change, base=small_fields):
+    """A random accepted file, built and then changed as bytes."""
+    return lambda rng: change(build(**base(rng)), rng)
+
+
+def states_64(rng):
+    """64 states with a low level, so that it is quick."""
+    return fields_for(rng, 64, 1000, 1, R=rng.choice([1, 8]), eps=MAX_TOLERANCE)
+
+
+def two_or_more(rng):
+    return small_fields(rng, 2, 5)
+
+
+def full_size(states):
+    """A file of `states` states (64 or 65), every rate 1."""
+    return build(1, states, 1, 1, 1, [1] * states, [[1] * (states - 1)] * states)
+
+
+def wrong_length(rng):
+    file = build(**small_fields(rng))
+    length = rng.choice([n for n in (rng.randint(0, 65535), 0, 65535) if n != len(file) - 2])
+    return length.to_bytes(2, "big") + file[2:]
+
+
+def swapped_length(rng):
+    """The length written low byte first (its two bytes differ up to 16 states)."""
+    file = build(**two_or_more(rng))
+    return file[1::-1] + file[2:]
+
+
+def rewards_with(value, where):
+    def make(rng):
+        fields = small_fields(rng)
+        place = {"first": 0, "last": fields["M"] - 1}.get(where, rng.randrange(fields["M"]))
+        fields["rewards"][place] = value(rng) if callable(value) else value
+        return build(**fields)
+    return make
+
+
+def only_last_reward(rng):
+    fields = small_fields(rng)
+    fields["rewards"] = [0] * (fields["M"] - 1) + [1]
+    return build(**fields)
+
+
+def no_reward(rng):
+    fields = small_fields(rng)
+    fields["rewards"] = [0] * fields["M"]
+    return build(**fields)
+
+
+def row_sum(total, where="any", time=1):
+    """One row with exactly this sum; the other rows are within the limit."""
+    def make(rng):
+        fields = two_or_more(rng)
+        M = fields["M"]
+        place = {"first": 0, "last": M - 1}.get(where, rng.randrange(M))
+        fields["rates"][place] = row_to(rng, M, total, 1.0)
+        fields["T"] = time
+        return build(**fields)
+    return make
+
+
+def rates_largest(rng):
+    fields = small_fields(rng, 2, 5)
+    M = fields["M"]
+    fields["rates"] = [[MAX_WORD] * (M - 1) for _ in range(M)]
+    return build(**fields)
+
+
+def row_sum_past_32_bits(rng):
+    """A row that sums to 2^32 and a little: small once cut to 32 bits."""
+    fields = small_fields(rng, 3, 5)
+    M = fields["M"]
+    rest = 2**32 + rng.randint(0, 1000) - MAX_WORD
+    fields["rates"][rng.randrange(M)] = [MAX_WORD, rest] + [0] * (M - 3)
+    return build(**fields)
+
+
+def product(E, T, R=1):
+    """E * T given by its factors; a row sum is E."""
+    def make(rng):
+        return build(**fields_for(rng, rng.randint(2, 3), E, T, R=R, eps=MAX_TOLERANCE))
+    return make
+
+
+def no_rates(T):
+    def make(rng):
+        M = rng.randint(1, 3)
+        return build(**valid(M, 1, MAX_TOLERANCE, T, random_rewards(rng, M), [[0] * (M - 1)] * M))
+    return make
+
+
+def product_past_64_bits_of_32(rng):
+    """E * T at or above 2^32, and small once cut to 32 bits."""
+    shift = rng.randint(10, 23)
+    E = 2**shift
+    return build(**fields_for(rng, rng.randint(2, 3), E, 2**(32 - shift) + rng.choice([0, 1])))
+
+
+def several(row, later):
+    """A file that breaks `row` and some of the `later` rows as well: the first one counts."""
+    def make(rng):
+        fields = two_or_more(rng)
+        M = fields["M"]
+        rows = {row} | set(rng.sample(later, rng.randint(1, len(later))))
+        if 12 in rows:
+            fields["T"] = MAX_WORD
+            fields["rates"] = [row_to(rng, M, rng.randint(1, 9_000_000), 1.0) for _ in range(M)]
+        if 11 in rows:
+            fields["rates"][rng.randrange(M)] = row_to(rng, M, rng.randint(10_000_001, MAX_WORD), 0.0)
+        if 10 in rows:
+            fields["rewards"] = [0] * M
+        if 9 in rows:
+            fields["rewards"][rng.randrange(M)] = rng.randint(1_000_001, MAX_WORD)
+        if 8 in rows:
+            fields["T"] = 0
+        if 7 in rows:
+            fields["eps"] = rng.choice([0, rng.randint(100_000_001, MAX_WORD)])
+        if 5 in rows:
+            fields["R"] = rng.choice([0, 9, rng.randint(9, 255)])
+        if 4 in rows:
+            fields["M"] = rng.choice([0, 65, rng.randint(65, 255)])
+        if 3 in rows:
+            fields["version"] = rng.choice([0, 2, rng.randint(2, 255)])
+        file = build(**fields)
+        if 6 in rows:
+            file = relength(file + bytes(rng.randint(1, 9)))
+        if 2 in rows:
+            file = file + bytes(rng.randint(1, 9))
+        if 1 in rows:
+            file = file[:rng.randint(0, 12)]
+        return file
+    return make
+
+
+def random_bytes(rng):
+    return rng.randbytes(rng.randint(0, 80))
+
+
+def random_bytes_right_length(rng):
+    return relength(rng.randbytes(rng.randint(2, 80)))
+
+
+def random_numbers(rng):
+    """The right shape and version, every number random."""
+    M = rng.randint(1, 4)
+    return relength(b"\0\0" + bytes([1, M, rng.randint(1, 8)]) + rng.randbytes(4 * M * M + 8))
+
+
+def flipped_bits(rng):
+    file = bytearray(build(**small_fields(rng)))
+    for _ in range(rng.randint(1, 3)):
+        file[rng.randrange(len(file))] ^= 1 << rng.randrange(8)
+    return bytes(file)
+
+
+def fixed(file):
+    return lambda rng: file
+
+
+def diagonal_given(rng):
+    """The rates of every row with their diagonal: M numbers per row."""
+    fields = small_fields(rng)
+    fields["rates"] = [row + [0] for row in fields["rates"]]
+    return build(**fields)
+
+
+DAMAGE = [
+    (1, "empty", fixed(b"")),
+    (1, "one-byte", fixed(b"\0")),
+    (1, "two-bytes-length-0", fixed(b"\0\0")),
+    (1, "12-bytes", bytewise(lambda file, rng: file[:12])),
+    (1, "12-bytes-length-right", bytewise(lambda file, rng: relength(file[:12]))),
+    (1, "below-13-bytes", bytewise(lambda file, rng: file[:rng.randint(2, 11)])),
+    (2, "length-one-more", bytewise(lambda file, rng: (len(file) - 1).to_bytes(2, "big") + file[2:])),
+    (2, "length-one-less", bytewise(lambda file, rng: (len(file) - 3).to_bytes(2, "big") + file[2:])),
+    (2, "length-counts-itself", bytewise(lambda file, rng: len(file).to_bytes(2, "big") + file[2:])),
+    (2, "length-wrong", wrong_length),
+    (2, "length-low-byte-first", swapped_length),
+    (2, "last-byte-missing", bytewise(lambda file, rng: file[:-1])),
+    (2, "13-bytes-of-more", bytewise(lambda file, rng: file[:13])),
+    (2, "truncated", bytewise(lambda file, rng: file[:rng.randint(13, len(file) - 1)])),
+    (2, "one-byte-too-many", bytewise(lambda file, rng: file + b"\0")),
+    (2, "bytes-too-many", bytewise(lambda file, rng: file + rng.randbytes(rng.randint(2, 90)))),
+    (2, "64-states-one-byte-too-many", lambda rng: full_size(64) + b"\0"),
+    (2, "20000-bytes-length-19998", lambda rng: relength(full_size(64) + bytes(3603))),
+    (2, "65-states-in-full", lambda rng: full_size(65)),
+    (3, "version-0", changed(version=0)),
+    (3, "version-2", changed(version=2)),
+    (3, "version-255", changed(version=255)),
+    (4, "states-0", changed(M=0)),
+    (4, "states-0-length-11", lambda rng: build(1, 0, 1, 1, 1, [], [])),
+    (4, "states-65", changed(M=65)),
+    (4, "states-255", changed(M=255)),
+    (0, "states-64", changed(states_64)),
+    (0, "states-1", changed(lambda rng: small_fields(rng, 1, 1))),
+    (5, "moments-0", changed(R=0)),
+    (5, "moments-9", changed(R=9)),
+    (5, "moments-255", changed(R=255)),
+    (0, "moments-8", changed(R=8)),
+    (0, "moments-1", changed(R=1)),
+    (6, "one-byte-too-many-counted", bytewise(lambda file, rng: relength(file + b"\0"))),
+    (6, "one-byte-too-few-counted", bytewise(lambda file, rng: relength(file[:-1]))),
+    (6, "one-rate-too-many", bytewise(lambda file, rng: relength(file + bytes(4)))),
+    (6, "one-rate-too-few", bytewise(lambda file, rng: relength(file[:-4]))),
+    (6, "no-rewards-no-rates", bytewise(lambda file, rng: relength(file[:13]))),
+    (6, "diagonal-given", diagonal_given),
+    (6, "states-one-more", bytewise(lambda file, rng: file[:3] + bytes([file[3] + 1]) + file[4:])),
+    (6, "16398-bytes-counted", lambda rng: relength(full_size(64) + b"\0")),
+    (6, "20000-bytes-length-16396", lambda rng: relength(full_size(64) + b"\0") + bytes(3602)),
+    (7, "tolerance-0", changed(eps=0)),
+    (7, "tolerance-100000001", changed(eps=MAX_TOLERANCE + 1)),
+    (7, "tolerance-largest-word", changed(eps=MAX_WORD)),
+    (0, "tolerance-100000000", changed(eps=MAX_TOLERANCE)),
+    (0, "tolerance-1", changed(eps=1)),
+    (8, "time-0", changed(T=0)),
+    (0, "time-1", changed(T=1)),
+    (9, "reward-1000001-first", rewards_with(MAX_REWARD + 1, "first")),
+    (9, "reward-1000001-last", rewards_with(MAX_REWARD + 1, "last")),
+    (9, "reward-above", rewards_with(lambda rng: rng.randint(MAX_REWARD + 1, MAX_WORD), "any")),
+    (9, "reward-largest-word", rewards_with(MAX_WORD, "any")),
+    (0, "reward-1000000", rewards_with(MAX_REWARD, "any")),
+    (10, "rewards-0", no_reward),
+    (0, "reward-1-in-last-state", only_last_reward),
+    (11, "row-sum-10000001-first", row_sum(MAX_ROW_SUM + 1, "first")),
+    (11, "row-sum-10000001-last", row_sum(MAX_ROW_SUM + 1, "last")),
+    (11, "row-sum-10000001-time-26", row_sum(MAX_ROW_SUM + 1, "any", 26)),
+    (11, "rates-largest-word", rates_largest),
+    (11, "row-sum-past-32-bits", row_sum_past_32_bits),
+    (0, "row-sum-10000000", row_sum(MAX_ROW_SUM, "any")),
+    (12, "row-sum-10000000-time-26", row_sum(MAX_ROW_SUM, "any", 26)),
+    (0, "row-sum-10000000-time-25", row_sum(MAX_ROW_SUM, "any", 25)),
+    (12, "product-256000001-rate-1", product(1, MAX_X + 1)),
+    (12, "product-256000001", product(*factors(MAX_X + 1))),
+    (12, "product-256000001-no-rates", no_rates(MAX_X + 1)),
+    (12, "time-largest-word-no-rates", no_rates(MAX_WORD)),
+    (12, "product-257000000", product(1_000_000, 257)),
+    (12, "product-largest", product(MAX_ROW_SUM, MAX_WORD)),
+    (12, "product-past-32-bits", product_past_64_bits_of_32),
+    (0, "product-256000000-rate-1", product(1, MAX_X)),
+    (0, "product-256000000", product(8_000_000, 32)),
+    (0, "product-256000000-no-rates", no_rates(MAX_X)),
+    (0, "product-255999999", product(*factors(MAX_X - 1))),
+    (1, "several", several(1, [2, 3, 4, 5, 6, 7, 8, 9, 11])),
+    (2, "several", several(2, [3, 4, 5, 6, 7, 8, 9, 11])),
+    (3, "several", several(3, [4, 5, 6, 7, 8, 9, 11])),
+    (4, "several", several(4, [5, 6, 7, 8, 10, 11])),
+    (5, "several", several(5, [6, 7, 8, 9, 11])),
+    (6, "several", several(6, [7, 8, 9, 11])),
+    (7, "several", several(7, [8, 9, 11])),
+    (7, "several-again", several(7, [10, 11, 12])),
+    (8, "several", several(8, [9, 11])),
+    (8, "several-again", several(8, [10, 11])),
+    (9, "several", several(9, [11, 12])),
+    (10, "several", several(10, [11, 12])),
+    (11, "several", several(11, [12])),
+    (None, "random-bytes", random_bytes),
+    (None, "random-bytes-right-length", random_bytes_right_length),
+    (None, "random-numbers", random_numbers),
+    (None, "flipped-bits", flipped_bits),
+]
+
+
+def damage_name(row, what):
+    """refusedNN-what, accepted-what, or open-what."""
+    if row is None:
+        return f"open-{what}"
+    return f"refused{row:02d}-{what}" if row else f"accepted-{what}"
+
+
+def damaged_models(seed, count):
+    """`count` files at and beyond the borders, as (name, bytes); the name tells the row."""
+    rng = random.Random(seed)
+    for index in range(count):
+        row, what, make = DAMAGE[index % len(DAMAGE)]
+        yield f"{index:05d}-{damage_name(row, what)}", make(rng)
+
+
+def few_cells_models(seed, count):
+    """Accepted files with a count of answer cells, as (name, bytes, cells): M * R cells are
+    enough, one less or none is row 13."""
+    rng = random.Random(seed)
+    for index in range(count):
+        fields = small_fields(rng)
+        need = fields["M"] * fields["R"]
+        row, cells = [(13, need - 1), (0, need), (13, 0)][index % 3]
+        yield f"{index:05d}-{damage_name(row, 'cells')}", build(**fields), cells
+
+
+def mixed_models(seed, count):
+    """Valid and damaged files in turn, `count` in all."""
+    valid_ones = valid_models(seed, (count + 1) // 2)
+    damaged_ones = damaged_models(seed, count // 2)
+    for index in range(count):
+        yield next(damaged_ones if index % 2 else valid_ones)
+
+
+# --- Command line -----------------------------------------------------------------------------
+
+class Parser(argparse.ArgumentParser):
+    """Says what is wrong with the arguments in one line, and ends with status 2."""
+
+    def error(self, message):
+        self.exit(2, f"{self.prog}: {message}\n")
+
+
+def positive(text):
+    """A whole number of at least 1, for an argument."""
+    number = int(text)
+    if number < 1:
+        raise ValueError
+    return number
+
+
+positive.__name__ = "number of at least 1"
+
+
+def main():
+    parser = Parser(description="Write generated model files, valid and damaged in turn.")
+    parser.add_argument("--seed", type=int, default=1)
+    parser.add_argument("--count", type=positive, default=100)
+    parser.add_argument("--out", required=True, metavar="DIR")
+    options = parser.parse_args()
+    try:
+        os.makedirs(options.out, exist_ok=True)
+        for name, file in mixed_models(options.seed, options.count):
+            with open(os.path.join(options.out, name + ".model"), "wb") as target:
+                target.write(file)
+    except OSError as error:
+        print(f"models.py: cannot write: {error}", file=sys.stderr)
+        return 2
+    print(f"wrote {options.count} models, seed {options.seed}")
+    return 0
+
+
+if __name__ == "__main__":
+    sys.exit(main())
