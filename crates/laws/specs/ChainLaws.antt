@@ -1,0 +1,93 @@
+-- The uniformized chain: each row of c sums to E, f ≤ F, and the arrays that hold a chain.
+use Prim.Native.Nat.{ℕ, zero, suc, _+_, _*_, _-_, _/_, _%_, _≤_, _<_, max}
+use native.Mathlib.Omega.{arith}
+use native.Mathlib.Nat.{mul-add-div-right, mul-add-mod-self-right, div-eq-of-lt, mod-eq-of-lt}
+use native.Mathlib.Decide.{ℕ-discrete}
+use mathlib.Core.Path.{_≡_, refl, sym, _∙_, ap}
+use mathlib.Core.Bool.{Bool, true, false, _&&_}
+use mathlib.Core.List.{List}
+use lib.ListN.{length, getD}
+use lib.Dec.{eqb, ltb}
+use borrow.Author.Tests.{eq-eqb, ne-eqb, lt-ltb, le-ltb}
+use Rattle.definitions.specs.Sums.{sum, largest, firsts, pick}
+use Rattle.definitions.specs.Chain.{Model, jumpRate, rowSum, uniformRate, c, maxReward, jumpMillionths, Chain, chainOf, padded, flat, arrays}
+use Rattle.laws.specs.SumLaws.{sum-same, le-largest}
+use Rattle.laws.specs.ListLaws.{getD-firsts, length-firsts}
+
+-- what changes at the diagonal alone changes the sum by that much
+pub sum-diagonal : (n i d : ℕ) (g : ℕ → ℕ) → i < n → sum n (λ j. pick (eqb j i) d (g j)) ≡ sum n (λ j. pick (eqb j i) 0 (g j)) + d
+unfolding sum
+sum-diagonal zero i d g l = absurd (omega arith)
+sum-diagonal (suc n) i d g l =
+    elim (ℕ-discrete n i) [
+      | yes e ↦
+          rw (eq-eqb n i e)
+          (omega (arith, sum-same n (λ j. pick (eqb j i) d (g j)) (λ j. pick (eqb j i) 0 (g j)) (λ j b. rw (ne-eqb j i (omega arith)))))
+      | no ne ↦ rw (ne-eqb n i ne) (omega (arith, sum-diagonal n i d g (omega arith)))
+    ]
+
+pub rowSum-le-rate : (m : Model) (i : ℕ) → i < m .states → rowSum m i ≤ uniformRate m
+unfolding uniformRate
+rowSum-le-rate m i l = omega (arith, le-largest (m .states) (rowSum m) i l)
+
+pub rate-pos : (m : Model) → 0 < uniformRate m
+unfolding uniformRate
+rate-pos m = omega arith
+
+-- each row of c sums to E
+pub row-sums-to-rate : (m : Model) (i : ℕ) → i < m .states → sum (m .states) (c m i) ≡ uniformRate m
+unfolding c
+row-sums-to-rate m i l =
+    let split : sum (m .states) (c m i) ≡ rowSum m i + (uniformRate m - rowSum m i) =
+    unfold jumpRate rowSum in sum-diagonal (m .states) i (uniformRate m - rowSum m i) (m .rate i) l in
+    omega (arith, rowSum-le-rate m i l)
+
+-- f ≤ F
+pub reward-le-largest : (m : Model) (i : ℕ) → i < m .states → m .reward i ≤ maxReward m
+unfolding maxReward
+reward-le-largest m i l = le-largest (m .states) (m .reward) i l
+
+pub length-padded : (M : ℕ) (v : ℕ → ℕ) → length (padded M v) ≡ 64
+unfolding padded
+length-padded M v = length-firsts 64 (λ i. pick (ltb i M) (v i) 0)
+
+-- a padded vector at a state, and past the states
+pub getD-padded : (M : ℕ) (v : ℕ → ℕ) (i : ℕ) → M ≤ 64 → i < M → getD (padded M v) i 0 ≡ v i
+unfolding padded
+getD-padded M v i h l = getD-firsts 64 (λ j. pick (ltb j M) (v j) 0) i (omega arith) ∙ rw (lt-ltb i M l)
+
+pub length-flat : (ch : Chain) → length (flat ch) ≡ 4096
+unfolding flat
+length-flat ch = length-firsts 4096 (λ k. pick (ltb (k / 64) (ch .states) && ltb (k % 64) (ch .states)) (ch .entry (k / 64) (k % 64)) 0)
+
+-- c(i,j) in its place of the array
+pub getD-flat : (ch : Chain) (i j : ℕ) → ch .states ≤ 64 → i < ch .states → j < ch .states → getD (flat ch) (i * 64 + j) 0 ≡ ch .entry i j
+unfolding flat
+getD-flat ch i j h li lj =
+    getD-firsts 4096 (λ k. pick (ltb (k / 64) (ch .states) && ltb (k % 64) (ch .states)) (ch .entry (k / 64) (k % 64)) 0) (i * 64 + j) (omega arith)
+    ∙ rw (row, column, lt-ltb i (ch .states) li, lt-ltb j (ch .states) lj)
+  where
+    row : (i * 64 + j) / 64 ≡ i
+    row = omega arith
+
+    column : (i * 64 + j) % 64 ≡ j
+    column = omega arith
+
+-- two chains that agree at every pair of states
+pub record SameChain (a b : Chain) : Type 0 where
+  pub states : a .states ≡ b .states
+  pub rate : a .rate ≡ b .rate
+  pub largestReward : a .largestReward ≡ b .largestReward
+  pub entry : (i j : ℕ) → i < a .states → j < a .states → a .entry i j ≡ b .entry i j
+  pub reward : (i : ℕ) → i < a .states → a .reward i ≡ b .reward i
+
+-- the arrays of a chain hold that chain
+pub arrays-same : (ch : Chain) → ch .states ≤ 64 → SameChain (arrays (ch .states) (ch .rate) (flat ch) (padded (ch .states) (ch .reward)) (ch .largestReward)) ch
+arrays-same ch h =
+    record {
+      states = refl;
+      rate = refl;
+      largestReward = refl;
+      entry = λ i j li lj. getD-flat ch i j h li lj;
+      reward = λ i l. getD-padded (ch .states) (ch .reward) i h l;
+    }

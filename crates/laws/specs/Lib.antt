@@ -1,0 +1,7 @@
+-- Theorems about document 01's definitions. No code is named here.
+pub mod Rounding
+pub mod SumLaws
+pub mod ListLaws
+pub mod ChainLaws
+pub mod VectorLaws
+pub mod Acceptance

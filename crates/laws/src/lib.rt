@@ -1,0 +1,1 @@
+// Theorems about the definitions stand in specs/. This crate has no code.
