@@ -5,3 +5,5 @@ pub mod ListLaws
 pub mod ChainLaws
 pub mod VectorLaws
 pub mod Acceptance
+pub mod WeightLaws
+pub mod LevelLaws
