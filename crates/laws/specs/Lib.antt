@@ -7,3 +7,5 @@ pub mod VectorLaws
 pub mod Acceptance
 pub mod WeightLaws
 pub mod LevelLaws
+pub mod FractionLaws
+pub mod VectorError
