@@ -9,3 +9,4 @@ pub mod WeightLaws
 pub mod LevelLaws
 pub mod FractionLaws
 pub mod VectorError
+pub mod WeightError
