@@ -10,3 +10,4 @@ pub mod LevelLaws
 pub mod FractionLaws
 pub mod VectorError
 pub mod WeightError
+pub mod TailBound
