@@ -11,3 +11,4 @@ pub mod FractionLaws
 pub mod VectorError
 pub mod WeightError
 pub mod TailBound
+pub mod AverageBound

@@ -94,3 +94,9 @@ any-largest k (suc n) f = rw (any-largest k n f) (either (ltb k (largest n f)) (
     either true b p q = rw p (sym (lt-ltb k _ (omega (arith, ltb-true k (largest n f) p))))
     either false true p q = rw (p, q) (sym (lt-ltb k _ (omega (arith, ltb-true k (f n) q))))
     either false false p q = rw (p, q) (sym (le-ltb k _ (omega (arith, ltb-false k (largest n f) p, ltb-false k (f n) q))))
+
+-- a sum of n + k terms, the first n apart
+pub sum-split : (n k : ℕ) (f : ℕ → ℕ) → sum (n + k) f ≡ sum n f + sum k (λ j. f (n + j))
+unfolding sum
+sum-split n zero f = rw native.Mathlib.Nat.add-zero (omega arith)
+sum-split n (suc k) f = rw native.Mathlib.Nat.add-suc (omega (arith, sum-split n k f))

@@ -56,9 +56,12 @@ module _ (X ε L N : ℕ) (X-pos : 0 < X) (passes : Passes X ε N) (past : N ≤
     where
       r : ℕ
       r = (N + 1) * MILLION - X
+
       t : ℕ
       t = 1 + (weight X N + N - mode X) * X / r
+
       reached : mode X ≤ N
       reached = omega (arith, mode-low X, passes .past)
+
       same : weight X N + N - mode X ≡ weight X N + (N - mode X + (mode X - N))
       same = omega (arith, reached)

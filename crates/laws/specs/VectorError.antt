@@ -24,35 +24,42 @@ module _ (ch : Chain) (p : Proper ch) (s : Stochastic ch) where
   mean-near : (v : ℕ → ℕ) (e d i : ℕ) (x : ℕ → Fraction) → i < ch .states → ((j : ℕ) → j < ch .states → Near (v j) e d (x j)) → Near (rowMean ch v i) (e + 1) d (exactMean ch p x i)
   unfolding rowMean exactMean
   mean-near v e d i x l h =
-      record
-      { low =
-        over-low (S / E) products (p .rate-pos) (quotient-low S E)
-        (total-low M d (λ j. c j * v j) term (λ j b. whole-times-low (c j) (x j) (h j b .low)))
-      ; high =
-        over-high (S / E + (e + 1)) products (p .rate-pos) wide
-        (total-high M d (λ j. c j * (v j + e)) term (λ j b. whole-times-high (c j) (x j) (h j b .high)))
-      ; top =
-        over-high 1 products (p .rate-pos) (omega (arith, sum-times M 1 c, s .row i l))
-        (total-high M 1 (λ j. c j * 1) term (λ j b. whole-times-high (c j) (x j) (h j b .top)))
+      record {
+        low =
+            over-low (S / E) products (p .rate-pos) (quotient-low S E)
+            (total-low M d (λ j. c j * v j) term (λ j b. whole-times-low (c j) (x j) (h j b .low)));
+        high =
+            over-high (S / E + (e + 1)) products (p .rate-pos) wide
+            (total-high M d (λ j. c j * (v j + e)) term (λ j b. whole-times-high (c j) (x j) (h j b .high)));
+        top =
+            over-high 1 products (p .rate-pos) (omega (arith, sum-times M 1 c, s .row i l))
+            (total-high M 1 (λ j. c j * 1) term (λ j b. whole-times-high (c j) (x j) (h j b .top)));
       }
     where
       M : ℕ
       M = ch .states
+
       E : ℕ
       E = ch .rate
+
       c : ℕ → ℕ
       c j = ch .entry i j
+
       S : ℕ
       S = sum M (λ j. c j * v j)
+
       term : ℕ → Fraction
       term j = times (whole (c j)) (x j)
+
       products : Fraction
       products = total M term
+
       split : sum M (λ j. c j * (v j + e)) ≡ S + sum M c * e
       split =
           sum-same M (λ j. c j * (v j + e)) (λ j. c j * v j + c j * e) (λ j b. mul-add (c j) (v j) e)
           ∙ sum-plus M (λ j. c j * v j) (λ j. c j * e)
           ∙ ap (λ (k : ℕ). S + k) (sum-times M e c)
+
       wide : sum M (λ j. c j * (v j + e)) ≤ (S / E + (e + 1)) * E
       wide = omega (arith, split, quotient-high S E (p .rate-pos), mul-le-mul-right e (s .row i l))
 
@@ -60,17 +67,18 @@ module _ (ch : Chain) (p : Proper ch) (s : Stochastic ch) where
   share-near : (v e d i : ℕ) (x : Fraction) → i < ch .states → Near v e d x → Near (rewardShare ch v i) (e + 1) d (exactShare ch p x i)
   unfolding rewardShare exactShare
   share-near v e d i x l h =
-      record
-      { low = over-low (f * v / F) (times (whole f) x) (p .reward-pos) (quotient-low (f * v) F) (whole-times-low f x (h .low))
-      ; high =
-        over-high (f * v / F + (e + 1)) (times (whole f) x) (p .reward-pos)
-        (omega (arith, quotient-high (f * v) F (p .reward-pos), mul-le-mul-right e (s .reward i l)))
-        (whole-times-high f x (h .high))
-      ; top = over-high 1 (times (whole f) x) (p .reward-pos) (omega (arith, s .reward i l)) (whole-times-high f x (h .top))
+      record {
+        low = over-low (f * v / F) (times (whole f) x) (p .reward-pos) (quotient-low (f * v) F) (whole-times-low f x (h .low));
+        high =
+            over-high (f * v / F + (e + 1)) (times (whole f) x) (p .reward-pos)
+            (omega (arith, quotient-high (f * v) F (p .reward-pos), mul-le-mul-right e (s .reward i l)))
+            (whole-times-high f x (h .high));
+        top = over-high 1 (times (whole f) x) (p .reward-pos) (omega (arith, s .reward i l)) (whole-times-high f x (h .top));
       }
     where
       f : ℕ
       f = ch .reward i
+
       F : ℕ
       F = ch .largestReward
 
@@ -78,25 +86,28 @@ module _ (ch : Chain) (p : Proper ch) (s : Stochastic ch) where
 mix-near : (n k v w e d : ℕ) (x y : Fraction) → Near v e d x → Near w e d y → Near (mix n (suc k) v w) (e + 1) d (exactMix n k x y)
 unfolding mix exactMix
 mix-near n k v w e d x y p q =
-    record
-    { low =
-      over-low (both / (n + suc k)) sum-of (sum-pos n k) (quotient-low both (n + suc k))
-      (plus-low first second (whole-times-low n x (p .low)) (whole-times-low (suc k) y (q .low)))
-    ; high =
-      over-high (both / (n + suc k) + (e + 1)) sum-of (sum-pos n k)
-      (omega (arith, quotient-high both (n + suc k) (sum-pos n k)))
-      (plus-high first second (whole-times-high n x (p .high)) (whole-times-high (suc k) y (q .high)))
-    ; top =
-      over-high 1 sum-of (sum-pos n k) (omega arith)
-      (plus-high first second (whole-times-high n x (p .top)) (whole-times-high (suc k) y (q .top)))
+    record {
+      low =
+          over-low (both / (n + suc k)) sum-of (sum-pos n k) (quotient-low both (n + suc k))
+          (plus-low first second (whole-times-low n x (p .low)) (whole-times-low (suc k) y (q .low)));
+      high =
+          over-high (both / (n + suc k) + (e + 1)) sum-of (sum-pos n k)
+          (omega (arith, quotient-high both (n + suc k) (sum-pos n k)))
+          (plus-high first second (whole-times-high n x (p .high)) (whole-times-high (suc k) y (q .high)));
+      top =
+          over-high 1 sum-of (sum-pos n k) (omega arith)
+          (plus-high first second (whole-times-high n x (p .top)) (whole-times-high (suc k) y (q .top)));
     }
   where
     both : ℕ
     both = n * v + suc k * w
+
     first : Fraction
     first = times (whole n) x
+
     second : Fraction
     second = times (whole (suc k)) y
+
     sum-of : Fraction
     sum-of = plus first second
 

@@ -80,6 +80,11 @@ module _ (X : ℕ) where
 unfoldable pub distance : ℕ → ℕ → ℕ
 distance n m = n - m + (m - n)
 
+-- a weight and its exact weight up to L, scaled so that the weight of m is 10^15
+pub record Held (X L n : ℕ) : Type 0 where
+  pub low : weight X n * z X L (mode X) ≤ GREATEST * z X L n
+  pub high : GREATEST * z X L n ≤ (weight X n + distance n (mode X)) * z X L (mode X)
+
 -- one step away from m, rightward or leftward: w' is w × a over b, down, and z' × b = z × a
 step-low : (w w' a b z z' zm : ℕ) → 0 < b → w' * b ≤ w * a → z' * b ≡ z * a → w * zm ≤ GREATEST * z → w' * zm ≤ GREATEST * z'
 step-low w w' a b z z' zm pos q e h =
@@ -100,53 +105,48 @@ module _ (X : ℕ) (X-pos : 0 < X) (L : ℕ) (mode-in : mode X ≤ L) where
   abbrev zm : ℕ
   zm = z X L (mode X)
 
-  -- a weight and its exact weight, scaled so that the weight of m is 10^15
-  pub record Held (n : ℕ) : Type 0 where
-    pub low : weight X n * z X L (mode X) ≤ GREATEST * z X L n
-    pub high : GREATEST * z X L n ≤ (weight X n + distance n (mode X)) * z X L (mode X)
-
-  held-mode : Held m
+  held-mode : Held X L m
   unfolding distance
   held-mode = record { low = omega (arith, ap (λ (v : ℕ). v * zm) (weight-mode X)); high = omega (arith, ap (λ (v : ℕ). v * zm) (weight-mode X)) }
 
-  held-right : (n : ℕ) → m ≤ n → n < L → Held n → Held (n + 1)
+  held-right : (n : ℕ) → m ≤ n → n < L → Held X L n → Held X L (n + 1)
   unfolding distance
   held-right n low high h =
       let D : ℕ = (n + 1) * MILLION in
       let pos : 0 < D = omega arith in
       let w' : weight X (n + 1) ≡ weight X n * X / D = weight-right X n low in
       let apart : n + 1 - m + (m - (n + 1)) ≡ n - m + (m - n) + 1 = omega arith in
-      record
-      { low = step-low (weight X n) (weight X (n + 1)) X D (z X L n) (z X L (n + 1)) zm pos (rw w' (quotient-low (weight X n * X) D)) (z-next X L n high) (h .low)
-      ; high = rw apart (step-high (weight X n) (weight X (n + 1)) X D (z X L n) (z X L (n + 1)) zm (n - m + (m - n)) pos (rw w' (quotient-high (weight X n * X) D pos)) (omega (arith, mode-high X)) (z-next X L n high) (h .high))
+      record {
+        low = step-low (weight X n) (weight X (n + 1)) X D (z X L n) (z X L (n + 1)) zm pos (rw w' (quotient-low (weight X n * X) D)) (z-next X L n high) (h .low);
+        high = rw apart (step-high (weight X n) (weight X (n + 1)) X D (z X L n) (z X L (n + 1)) zm (n - m + (m - n)) pos (rw w' (quotient-high (weight X n * X) D pos)) (omega (arith, mode-high X)) (z-next X L n high) (h .high));
       }
 
-  held-left : (n : ℕ) → n < m → Held (n + 1) → Held n
+  held-left : (n : ℕ) → n < m → Held X L (n + 1) → Held X L n
   unfolding distance
   held-left n below h =
       let D : ℕ = (n + 1) * MILLION in
       let w' : weight X n ≡ weight X (n + 1) * D / X = weight-left X n below ∙ ap (λ (v : ℕ). v / X) (mul-assoc (weight X (n + 1)) (n + 1) MILLION) in
       let apart : n - m + (m - n) ≡ n + 1 - m + (m - (n + 1)) + 1 = omega arith in
-      record
-      { low = step-low (weight X (n + 1)) (weight X n) D X (z X L (n + 1)) (z X L n) zm X-pos (rw w' (quotient-low (weight X (n + 1) * D) X)) (sym (z-next X L n (omega arith))) (h .low)
-      ; high = rw apart (step-high (weight X (n + 1)) (weight X n) D X (z X L (n + 1)) (z X L n) zm (n + 1 - m + (m - (n + 1))) X-pos (rw w' (quotient-high (weight X (n + 1) * D) X X-pos)) (omega (arith, mode-low X)) (sym (z-next X L n (omega arith))) (h .high))
+      record {
+        low = step-low (weight X (n + 1)) (weight X n) D X (z X L (n + 1)) (z X L n) zm X-pos (rw w' (quotient-low (weight X (n + 1) * D) X)) (sym (z-next X L n (omega arith))) (h .low);
+        high = rw apart (step-high (weight X (n + 1)) (weight X n) D X (z X L (n + 1)) (z X L n) zm (n + 1 - m + (m - (n + 1))) X-pos (rw w' (quotient-high (weight X (n + 1) * D) X X-pos)) (omega (arith, mode-low X)) (sym (z-next X L n (omega arith))) (h .high));
       }
 
-  held-far-right : (k : ℕ) → m + k ≤ L → Held (m + k)
+  held-far-right : (k : ℕ) → m + k ≤ L → Held X L (m + k)
   held-far-right zero h = rw add-zero held-mode
   held-far-right (suc k) h = rw (add-suc, ← add-one) (held-right (m + k) (omega arith) (omega arith) (held-far-right k (omega arith)))
 
-  held-far-left : (k : ℕ) → k ≤ m → Held (m - k)
+  held-far-left : (k : ℕ) → k ≤ m → Held X L (m - k)
   held-far-left zero h = rw sub-zero held-mode
   held-far-left (suc k) h =
       let one : m - k ≡ m - suc k + 1 = omega arith in
       held-left (m - suc k) (omega arith) (rw one at (held-far-left k (omega arith)))
 
   -- w(n)·z(m) ≤ 10^15·z(n) ≤ (w(n) + |n − m|)·z(m) for every n up to L
-  pub held : (n : ℕ) → n ≤ L → Held n
+  pub held : (n : ℕ) → n ≤ L → Held X L n
   held n h = from (decLe m n)
     where
-      from : Dec (m ≤ n) → Held n
+      from : Dec (m ≤ n) → Held X L n
       from (yes l) =
           let here : m + (n - m) ≡ n = omega arith in
           rw here at (held-far-right (n - m) (omega arith))
