@@ -1,12 +1,12 @@
 -- "The printed sheet": its bytes.
 use Prim.Native.Nat.{ℕ, zero, suc, _+_, _*_, _/_, _%_, _^_}
 use mathlib.Core.List.{List, [], _∷_, _++_}
-use lib.ListN.{length, take, getD, replicate}
+use lib.ListN.{length, take, drop, getD, replicate}
 use lib.Dec.{ltb}
 use Rattle.definitions.specs.declared.Outcome.{Outcome}
 use Rattle.definitions.specs.declared.Outcome.the-variants as ended
 use Rattle.definitions.specs.Sums.{pick}
-use Rattle.definitions.specs.Chain.{Model, modelOf}
+use Rattle.definitions.specs.File.{stateCount, highestMoment}
 use Rattle.definitions.specs.Moment.{outcome, cellsAfter}
 
 -- the byte of the decimal digit of x that counts 10^p
@@ -48,10 +48,10 @@ levelLine N = 108 ∷ 101 ∷ 118 ∷ 101 ∷ 108 ∷ 32 ∷ decimal N ++ 10 ∷
 unfoldable pub refusedLine : ℕ → List ℕ
 refusedLine k = 114 ∷ 101 ∷ 102 ∷ 117 ∷ 115 ∷ 101 ∷ 100 ∷ 32 ∷ decimal k ++ 10 ∷ []
 
--- the sheet of an outcome of the file s and the cells after the call
-unfoldable pub sheetOf : Outcome → List ℕ → List ℕ → List ℕ
-sheetOf (ended.Level N) s cells = levelLine N ++ momentLines (modelOf s .highest) (modelOf s .states * modelOf s .highest) cells
-sheetOf (ended.Refused k) s cells = refusedLine k
+-- the sheet of an outcome, for M states, the highest moment R and the cells after the call
+unfoldable pub sheetOf : Outcome → ℕ → ℕ → List ℕ → List ℕ
+sheetOf (ended.Level N) M R cells = levelLine N ++ momentLines R (M * R) cells
+sheetOf (ended.Refused k) M R cells = refusedLine k
 
 -- the program lends this many cells, and reads at most this many bytes
 abbrev pub lentCells : ℕ
@@ -62,8 +62,12 @@ readLimit = 16398
 
 -- what the calculator prints of the bytes that it read
 unfoldable pub sheet : List ℕ → List ℕ
-sheet s = sheetOf (outcome s lentCells) s (cellsAfter (outcome s lentCells) s (replicate lentCells 0))
+sheet s = sheetOf (outcome s lentCells) (stateCount s) (highestMoment s) (cellsAfter (outcome s lentCells) s (replicate lentCells 0))
 
 -- what the program prints for the bytes on standard input
 unfoldable pub printedSheet : List ℕ → List ℕ
 printedSheet input = sheet (take readLimit input)
+
+-- a buffer after a text was written at its start: the text, and the buffer's later bytes as they were
+unfoldable pub written : List ℕ → List ℕ → List ℕ
+written text buffer = text ++ drop (length text) buffer

@@ -12,3 +12,5 @@ pub mod VectorError
 pub mod WeightError
 pub mod TailBound
 pub mod AverageBound
+pub mod MomentLaws
+pub mod Demand3

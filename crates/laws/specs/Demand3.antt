@@ -1,0 +1,85 @@
+-- Demand 3, of the definitions: for every accepted file the moments at the level satisfy Promise.
+use Prim.Native.Nat.{ℕ, zero, suc, _+_, _*_, _≤_, _<_}
+use native.Mathlib.Omega.{arith}
+use mathlib.Core.Path.{_≡_, refl, sym, _∙_, ap}
+use mathlib.Core.List.{List}
+use lib.ListN.{length, getD}
+use Rattle.definitions.specs.declared.Judgement.{Judgement}
+use Rattle.definitions.specs.declared.Judgement.the-variants as judged
+use Rattle.definitions.specs.declared.Outcome.{Outcome}
+use Rattle.definitions.specs.declared.Outcome.the-variants as ended
+use Rattle.definitions.specs.Chain.{Model, modelOf, maxReward, jumpMillionths, chainOf}
+use Rattle.definitions.specs.Rules.{judgement}
+use Rattle.definitions.specs.Vectors.{ONE, U}
+use Rattle.definitions.specs.Weights.{mode, weightSum}
+use Rattle.definitions.specs.Level.{level}
+use Rattle.definitions.specs.Moment.{weighted, weightedMean, moment, modelLevel, answered, outcome, cellsAfter}
+use Rattle.definitions.specs.Fraction.{Fraction, whole}
+use Rattle.definitions.specs.Average.{proper, exactU, average}
+use Rattle.definitions.specs.Promise.{ticks, Close, Promise, Promised, printed}
+use Rattle.laws.specs.LevelLaws.{level-is, level-max, level-mode}
+use Rattle.laws.specs.VectorLaws.{U-bound}
+use Rattle.laws.specs.VectorError.{vector-near}
+use Rattle.laws.specs.AverageBound.{Setting, LastQuotient, close-at-level, close-past-level}
+use Rattle.laws.specs.MomentLaws.{getD-moment, last-down}
+use Rattle.laws.specs.Acceptance.{Good, Facts, facts, stochastic}
+
+module _ (m : Model) (g : Good m) where
+  -- U of a state below M for moment r, as n runs
+  abbrev sequence : ℕ → ℕ → ℕ → ℕ
+  sequence r i n = U (chainOf m) n r i
+
+  -- the level is one that passes, and so short that the errors' sum stays small
+  setting : (r i P : ℕ) → i < m .states → LastQuotient (weighted (jumpMillionths m) (sequence r i) (modelLevel m)) (weightSum (jumpMillionths m) (modelLevel m)) P → Setting (jumpMillionths m) (m .tolerance) (modelLevel m) r (sequence r i) (λ n. exactU (chainOf m) (proper m (g .rewards-pos)) n r i) P
+  unfolding modelLevel
+  setting r i P l q =
+      record {
+        jumps = g .jumps-pos;
+        passes = level-is (jumpMillionths m) (m .tolerance) (g .jumps-max) (g .tolerance-pos) .passes;
+        short = omega (arith, level-max (jumpMillionths m) (m .tolerance) (g .jumps-max) (g .tolerance-pos));
+        ticks-max = λ n h. U-bound (chainOf m) (stochastic m) n r i l;
+        near = λ n. vector-near (chainOf m) (proper m (g .rewards-pos)) (stochastic m) n r i l;
+        last = q;
+      }
+
+  -- any last quotient P within one tick is close to the exact average
+  pub close-of : (r i P : ℕ) → i < m .states → LastQuotient (weighted (jumpMillionths m) (sequence r i) (modelLevel m)) (weightSum (jumpMillionths m) (modelLevel m)) P → Close m (g .rewards-pos) (modelLevel m) r i (ticks P)
+  unfolding average
+  close-of r i P l q =
+      let s = setting r i P l q in
+      record {
+        not-negative = record { cross = omega arith };
+        at-most-one = record { cross = omega (arith, q .top) };
+        at-level = close-at-level (jumpMillionths m) (m .tolerance) (modelLevel m) r (sequence r i) _ P s;
+        past-level = close-past-level (jumpMillionths m) (m .tolerance) (modelLevel m) r (sequence r i) _ P s;
+      }
+
+  -- the moment is one
+  pub moment-close : (r i : ℕ) → i < m .states → Close m (g .rewards-pos) (modelLevel m) r i (ticks (moment m (modelLevel m) r i))
+  unfolding moment
+  moment-close r i l =
+      close-of r i _ l
+      (last-down (jumpMillionths m) (modelLevel m) (sequence r i)
+      (unfold modelLevel in level-mode (jumpMillionths m) (m .tolerance) (g .jumps-max) (g .tolerance-pos))
+      (λ n h. U-bound (chainOf m) (stochastic m) n r i l))
+
+-- demand 3 for every accepted file, at its level, of the cells after the call
+pub demand3 : (s cells : List ℕ) → judgement s (length cells) ≡ judged.Accepted → Promise s (modelLevel (modelOf s)) (cellsAfter (ended.Level (modelLevel (modelOf s))) s cells)
+unfolding cellsAfter
+demand3 s cells accepted =
+    let f : Facts s (length cells) = facts s (length cells) accepted in
+    record {
+      rewarded = f .good .rewards-pos;
+      close =
+          λ i r l low high.
+          rw (getD-moment (modelOf s) (modelLevel (modelOf s)) i r cells l low high) (moment-close (modelOf s) (f .good) r i l);
+    }
+
+-- and for every file, by its outcome
+pub promised : (s cells : List ℕ) → Promised (outcome s (length cells)) s (cellsAfter (outcome s (length cells)) s cells)
+unfolding outcome answered
+promised s cells = from (judgement s (length cells)) refl
+  where
+    from : (j : Judgement) → judgement s (length cells) ≡ j → Promised (answered j s) s (cellsAfter (answered j s) s cells)
+    from judged.Accepted e = demand3 s cells e
+    from (judged.Refused k) e = tt

@@ -1,0 +1,60 @@
+-- The moments: their cells, and the last quotient.
+use Prim.Native.Nat.{ℕ, zero, suc, _+_, _*_, _-_, _/_, _%_, _≤_, _<_}
+use native.Mathlib.Omega.{arith}
+use native.Mathlib.Nat.{mul-add-div-right, mul-add-mod-self-right, div-eq-of-lt, mod-eq-of-lt, mul-le-mul-left, mul-le-mul-right, mul-le-mul, le-trans}
+use mathlib.Core.Path.{_≡_, refl, sym, _∙_, ap, ap₂}
+use mathlib.Core.List.{List}
+use lib.ListN.{length, getD}
+use Rattle.definitions.specs.Sums.{sum, over}
+use Rattle.definitions.specs.Chain.{Model}
+use Rattle.definitions.specs.Vectors.{ONE}
+use Rattle.definitions.specs.Weights.{GREATEST, mode, weight, weightSum}
+use Rattle.definitions.specs.Moment.{term, weighted, lastQuotient, weightedMean, moment, cellOf, cell}
+use Rattle.laws.specs.Rounding.{quotient-low, quotient-high, quotient-at-most}
+use Rattle.laws.specs.SumLaws.{sum-mono}
+use Rattle.laws.specs.ListLaws.{getD-over}
+use Rattle.laws.specs.WeightLaws.{weightSum-min}
+use Rattle.laws.specs.AverageBound.{LastQuotient}
+
+-- the state and the r of a cell
+cell-state : (R i k : ℕ) → k < R → (i * R + k) / R ≡ i
+cell-state R i k h = mul-add-div-right (omega arith) i k ∙ ap (λ (x : ℕ). i + x) (div-eq-of-lt h) ∙ omega arith
+
+cell-moment : (R i k : ℕ) → k < R → (i * R + k) % R ≡ k
+cell-moment R i k h = mul-add-mod-self-right i R k ∙ mod-eq-of-lt h
+
+cell-in : (M R i k : ℕ) → i < M → k < R → i * R + k < M * R
+cell-in M R i k h l = omega (arith, mul-le-mul-right R h)
+
+-- the cell of state i and moment r holds that moment
+pub cell-holds : (m : Model) (N i r : ℕ) → 1 ≤ r → r ≤ m .highest → cell m N (cellOf m i r) ≡ moment m N r i
+unfolding cell cellOf
+cell-holds m N i r low high =
+    let back : r - 1 + 1 ≡ r = omega arith in
+    ap₂ (moment m N) (ap (λ (x : ℕ). x + 1) (cell-moment (m .highest) i (r - 1) (omega arith)) ∙ back) (cell-state (m .highest) i (r - 1) (omega arith))
+
+-- in the cells after a call
+pub getD-moment : (m : Model) (N i r : ℕ) (cells : List ℕ) → i < m .states → 1 ≤ r → r ≤ m .highest → getD (over (m .states * m .highest) (cell m N) cells) (cellOf m i r) 0 ≡ moment m N r i
+getD-moment m N i r cells l low high =
+    getD-over (m .states * m .highest) (cell m N) cells (cellOf m i r) (unfold cellOf in cell-in (m .states) (m .highest) i (r - 1) l (omega arith))
+    ∙ cell-holds m N i r low high
+
+-- A is at most S where no u is above ONE
+pub weighted-max : (X N : ℕ) (u : ℕ → ℕ) → ((n : ℕ) → n ≤ N → u n ≤ ONE) → weighted X u N ≤ weightSum X N
+unfolding weighted weightSum term
+weighted-max X N u h =
+    sum-mono (suc N) (λ n. weight X n * u n / ONE) (weight X)
+    (λ n l. quotient-at-most (weight X n * u n) (weight X n) ONE (mul-le-mul-left (weight X n) (h n (omega arith))))
+
+-- rounded down, the last quotient is within one tick and in [0, 1]
+pub last-down : (X N : ℕ) (u : ℕ → ℕ) → mode X ≤ N → ((n : ℕ) → n ≤ N → u n ≤ ONE) → LastQuotient (weighted X u N) (weightSum X N) (weightedMean X u N)
+unfolding weightedMean lastQuotient
+last-down X N u reached h =
+    let A : ℕ = weighted X u N in
+    let S : ℕ = weightSum X N in
+    let pos : 0 < S = omega (arith, weightSum-min X N reached) in
+    record {
+      low = omega (arith, quotient-low (A * ONE) S);
+      high = omega (arith, quotient-high (A * ONE) S pos);
+      top = quotient-at-most (A * ONE) ONE S (omega (arith, weighted-max X N u h));
+    }
