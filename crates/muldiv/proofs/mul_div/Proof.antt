@@ -1,0 +1,62 @@
+-- `muldiv::mul_div` meets its contract. Assumes nothing.
+use mathlib.Core.Path.{sym, ap, _∙_}
+use mathlib.Core.Logic.{⊎-elim}
+use native.Mathlib.Omega.{arith}
+use native.Mathlib.Nat.{mod-lt}
+use borrow.Author.Needs.{needs}
+use borrow.Author.Tests.{leb-true, leb-false}
+use Rattle.muldiv.specs.MulDiv.{fitted}
+use Rattle.muldiv.specs.QuotientLaws.{zero-divisor, large-a, large-b, large-c, in-range}
+use Rattle.muldiv.proofs.Arithmetic.{joined}
+use Rattle.muldiv.proofs.mul_div.Statement.{statement}
+use Rattle.muldiv.proofs.mul_div.Tie as tie
+
+-- c is 0
+returns : tie.Need-returns
+returns c = sym (zero-divisor (c .before .args .a) (c .before .args .b) (c .before .args .c) (omega arith))
+
+-- a, b or c is too large
+returns-2 : tie.Need-returns-2
+returns-2 c =
+    let args = c .before .before .args in
+    ⊎-elim (λ w. sym (large-a (args .a) (args .b) (args .c) (omega arith)))
+    (⊎-elim
+    (λ w. sym (large-b (args .a) (args .b) (args .c) (omega (arith, leb-true))))
+    (λ w. sym (large-c (args .a) (args .b) (args .c) (omega (arith, leb-true)))))
+    (c .if2 .came)
+
+rem-multiplied : tie.Need-rem-multiplied
+rem-multiplied c = search needs
+
+multiplied-requires : tie.Need-multiplied-requires
+multiplied-requires c κs =
+    let args = c .before .before .before .before .args in
+    omega (arith, leb-false, mod-lt (args .a) {m = args .c} (omega arith))
+
+div-total : tie.Need-div-total
+div-total c = search needs
+
+total-requires : tie.Need-total-requires
+total-requires c κs = search needs
+
+-- the quotient of a × b is that of (a / c) × c × b, which is (a / c) × b, and that of (a % c) × b
+returns-3 : tie.Need-returns-3
+returns-3 c =
+    let args = c .before .before .before .before .before .before .args in
+    let low = c .before .multiplied in
+    c .total .ensures
+    ∙ ap fitted (sym (joined (args .a) (args .b) (args .c) (low .result .quotient) (low .result .remainder) (low .ensures)))
+    ∙ sym
+    (in-range (args .a) (args .b) (args .c) (omega arith) (omega arith) (omega (arith, leb-false)) (omega (arith, leb-false)))
+
+pub mul-div-spec : {M : Type 1} → statement M
+mul-div-spec =
+    tie.close
+    (tie.spec
+    returns
+    returns-2
+    rem-multiplied
+    multiplied-requires
+    div-total
+    total-requires
+    returns-3)

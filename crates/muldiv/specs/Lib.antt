@@ -1,0 +1,2 @@
+pub mod MulDiv
+pub mod QuotientLaws

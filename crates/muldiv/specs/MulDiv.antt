@@ -1,0 +1,34 @@
+-- What muldiv's contracts cite: document 01, "Multiply, then divide". Assumes nothing: these are definitions.
+use mathlib.Core.Path.{_≡_}
+use mathlib.Core.Bool.{Bool, true, false}
+use Prim.Native.Nat.{ℕ, _+_, _*_, _/_, _^_, _<_}
+use lib.Dec.{leb, eqb}
+use Rattle.muldiv.specs.declared.Quotient.{Quotient}
+use Rattle.muldiv.specs.declared.Quotient.the-variants.{Of, Nothing}
+
+-- Nothing where the test holds
+abbrev pub unless : Bool → Quotient → Quotient
+unless true q = Nothing
+unless false q = q
+
+-- n, unless 64 bits do not hold it
+unfoldable pub fitted : ℕ → Quotient
+fitted n = unless (leb (2 ^ 64) n) (Of n)
+
+-- a × b over c, down. Nothing where c is 0, where a, b or c is 2^62 or more, or where the quotient is 2^64 or more.
+unfoldable pub quotientOf : ℕ → ℕ → ℕ → Quotient
+quotientOf a b c =
+    unless (eqb c 0) (unless (leb (2 ^ 62) a) (unless (leb (2 ^ 62) b) (unless (leb (2 ^ 62) c) (fitted (a * b / c)))))
+
+-- n by c is q, and r is left over
+pub record Divides (n c q r : ℕ) : Type 0 where
+  pub whole : q * c + r ≡ n
+  pub rest : r < c
+
+-- a × b over c exists and fits: what a caller of `scaled` shows
+pub record Scalable (a b c : ℕ) : Type 0 where
+  pub divisor : 0 < c
+  pub a-small : a < 2 ^ 62
+  pub b-small : b < 2 ^ 62
+  pub c-small : c < 2 ^ 62
+  pub fits : a * b / c < 2 ^ 64
