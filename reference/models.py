@@ -20,12 +20,25 @@ MAX_ROW_SUM = 10_000_000
 MAX_X = 256_000_000
 MAX_WORD = 2**32 - 1
 
-# X, n and a tolerance for which the level stands on a knife's edge: at n, t is equal to the
-# number it is set against (first two), or the term n - m alone keeps n from being the level.
+# X, n and a tolerance for which the level stands on a knife's edge. At n, t is equal to the
+# number it is set against, so that n is the level; or it is 1 more, or the term n - m alone
+# makes it more, so that the level is n + 1.
 LEVEL_EDGES = [
-    (47_075, 2, 16_852), (5_499_024, 23, 5),
+    (47_075, 2, 16_852), (610_300, 3, 3_718_454), (5_499_024, 23, 5),
+    (95_940, 5, 1), (618_200, 7, 309), (852_452, 10, 2),
     (5_547_778, 12, 5_171_700), (35_194_131, 55, 787_354), (99_998_931, 158, 34),
     (149_189_150, 226, 2), (215_828_508, 238, 85_410_958), (235_416_209, 307, 3_622),
+]
+
+# Two-state models (tolerance, time, two rewards, two rates) with R = 8 in which the rounding
+# of the weights, or of the terms of A, or the place of m, reaches the printed digits.
+ROUNDING_EDGES = [
+    (1, 8, 853_121, 805_333, 9_967_855, 4_920_872),
+    (1_000, 54, 695_282, 688_244, 3_555_950, 887_069),
+    (1_000, 1, 978_811, 939_447, 5_876_231, 4_419_620),
+    (1_000_000, 7, 853_620, 808_596, 2_052_425, 1_119_921),
+    (1, 4, 584_208, 546_045, 8_719_866, 4_734_684),
+    (1_000, 2, 665_832, 622_370, 5_901_041, 4_698_429),
 ]
 
 
@@ -246,6 +259,11 @@ def level_edge(rng):
     return fields_for(rng, rng.randint(2, 3), E, T, R=rng.randint(1, 2), eps=eps)
 
 
+def rounding_edge(rng):
+    eps, T, f1, f2, out, back = rng.choice(ROUNDING_EDGES)
+    return valid(2, 8, eps, T, [f1, f2], [[out], [back]])
+
+
 def sparse(rng):
     E = log_uniform(rng, 1, MAX_ROW_SUM)
     return fields_for(rng, rng.randint(8, 16), E, random_time(rng, E), R=rng.randint(1, 3), fill=0.0)
@@ -258,13 +276,13 @@ def dense(rng):
 
 def medium(rng):
     E = log_uniform(rng, 1_000, MAX_ROW_SUM)
-    T = rng.randint(1, max(1, 40_000_000 // E))
-    return fields_for(rng, rng.randint(17, 32), E, T, R=rng.randint(1, 4))
+    T = rng.randint(1, max(1, 100_000_000 // E))
+    return fields_for(rng, rng.randint(17, 32), E, T)
 
 
 def large(rng):
     E = log_uniform(rng, 1_000, MAX_ROW_SUM)
-    T = rng.randint(1, max(1, 40_000_000 // E))
+    T = rng.randint(1, max(1, 100_000_000 // E))
     return fields_for(rng, rng.choice([63, 64, rng.randint(33, 64)]), E, T, R=rng.choice([1, 3, 8]))
 
 
@@ -277,15 +295,15 @@ SMALL_KINDS = [
     one_state, tiny, small, absorbing_states, all_rates_zero, q_below_1, q_whole_or_next, q_256,
     row_sum_largest, reward_largest, reward_in_one_state, rewards_equal, tolerance_smallest,
     tolerance_largest, time_longest, stiff_pair, units_with_one_crew, large_primes, level_edge,
-    sparse, dense,
+    rounding_edge, sparse, dense,
 ]
 
 
 def valid_kind(index):
     """The kind of the valid model number `index`: mostly small, now and then a larger one."""
-    if index % 120 == 47:
+    if index % 100 == 47:
         return heaviest
-    if index % 60 == 23:
+    if index % 40 == 23:
         return large
     if index % 20 == 11:
         return medium
@@ -409,7 +427,7 @@ def no_rates(T):
     return make
 
 
-def product_past_64_bits_of_32(rng):
+def product_past_32_bits(rng):
     """E * T at or above 2^32, and small once cut to 32 bits."""
     shift = rng.randint(10, 23)
     E = 2**shift
@@ -461,9 +479,13 @@ def random_bytes_right_length(rng):
 
 
 def random_numbers(rng):
-    """The right shape and version, every number random."""
+    """The right shape and version, every number up to about twice its limit."""
     M = rng.randint(1, 4)
-    return relength(b"\0\0" + bytes([1, M, rng.randint(1, 8)]) + rng.randbytes(4 * M * M + 8))
+    rewards = [rng.randint(0, rng.choice([3, 1_000_000, 1_200_000])) for _ in range(M)]
+    most = 20_000_000 // M
+    rates = [[log_uniform(rng, 1, most) for _ in range(M - 1)] for _ in range(M)]
+    eps = rng.randint(0, 150_000_000)
+    return build(1, M, rng.randint(1, 8), eps, log_uniform(rng, 1, 1_000), rewards, rates)
 
 
 def flipped_bits(rng):
@@ -550,16 +572,16 @@ DAMAGE = [
     (12, "row-sum-10000000-time-26", row_sum(MAX_ROW_SUM, "any", 26)),
     (0, "row-sum-10000000-time-25", row_sum(MAX_ROW_SUM, "any", 25)),
     (12, "product-256000001-rate-1", product(1, MAX_X + 1)),
-    (12, "product-256000001", product(*factors(MAX_X + 1))),
+    (12, "product-256000003", product(6_918_919, 37)),      # 256,000,001 itself is prime
     (12, "product-256000001-no-rates", no_rates(MAX_X + 1)),
     (12, "time-largest-word-no-rates", no_rates(MAX_WORD)),
     (12, "product-257000000", product(1_000_000, 257)),
     (12, "product-largest", product(MAX_ROW_SUM, MAX_WORD)),
-    (12, "product-past-32-bits", product_past_64_bits_of_32),
+    (12, "product-past-32-bits", product_past_32_bits),
     (0, "product-256000000-rate-1", product(1, MAX_X)),
     (0, "product-256000000", product(8_000_000, 32)),
     (0, "product-256000000-no-rates", no_rates(MAX_X)),
-    (0, "product-255999999", product(*factors(MAX_X - 1))),
+    (0, "product-255999999", product(48_003, 5_333)),
     (1, "several", several(1, [2, 3, 4, 5, 6, 7, 8, 9, 11])),
     (2, "several", several(2, [3, 4, 5, 6, 7, 8, 9, 11])),
     (3, "several", several(3, [4, 5, 6, 7, 8, 9, 11])),
@@ -625,13 +647,9 @@ class Parser(argparse.ArgumentParser):
 
 def positive(text):
     """A whole number of at least 1, for an argument."""
-    number = int(text)
-    if number < 1:
-        raise ValueError
-    return number
-
-
-positive.__name__ = "number of at least 1"
+    if not text.isdecimal() or int(text) < 1:
+        raise argparse.ArgumentTypeError(f"{text} is not a whole number of at least 1")
+    return int(text)
 
 
 def main():

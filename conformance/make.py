@@ -1,0 +1,156 @@
+#!/usr/bin/env python3
+"""Write the comparison kit, conformance/files: python3 conformance/make.py
+
+Models come from fixed seeds and fields, sheets from reference/calculator.py, so that every
+run writes the same files.
+"""
+
+import os
+import random
+import sys
+
+sys.dont_write_bytecode = True
+HERE = os.path.dirname(os.path.abspath(__file__))
+FILES = os.path.join(HERE, "files")
+sys.path.insert(0, os.path.join(os.path.dirname(HERE), "reference"))
+
+import calculator  # noqa: E402
+import models  # noqa: E402
+
+A = bytes.fromhex("000F010101000027100000000100000005")
+B = bytes.fromhex("001B01020205F5E100000000010000000100000000000F4240000F4240")
+
+
+def put(file, start, size, value):
+    """The file with a number of `size` bytes written from byte `start`."""
+    return file[:start] + value.to_bytes(size, "big") + file[start + size:]
+
+
+def hand_checked():
+    """The hand-checked files of document 01 and the small examples of its refusal table."""
+    yield "hand-A", A
+    yield "hand-A-without-last-byte", A[:-1]
+    yield "hand-A-version-2", put(A, 2, 1, 2)
+    yield "hand-A-states-0", put(A, 3, 1, 0)
+    yield "hand-A-moments-9", put(A, 4, 1, 9)
+    yield "hand-A-states-2", put(A, 3, 1, 2)
+    yield "hand-A-tolerance-0", put(A, 5, 4, 0)
+    yield "hand-A-time-0", put(A, 9, 4, 0)
+    yield "hand-A-reward-1000001", put(A, 13, 4, 1_000_001)
+    yield "hand-A-reward-0", put(A, 13, 4, 0)
+    yield "hand-B", B
+    yield "hand-B-rewards-0", put(B, 13, 8, 0)
+    yield "hand-B-version-9-states-0", put(put(B, 2, 1, 9), 3, 1, 0)
+    yield "hand-B-time-256", put(B, 9, 4, 256)
+    yield "hand-B-time-257", put(B, 9, 4, 257)
+    yield "hand-B-tolerance-1", put(B, 5, 4, 1)
+    yield "hand-B-tolerance-100000001", put(B, 5, 4, 100_000_001)
+    yield "hand-B-first-rate-10000000", put(B, 21, 4, 10_000_000)
+    yield "hand-B-first-rate-10000001", put(B, 21, 4, 10_000_001)
+
+
+def borders():
+    """Every kind of damage and the accepted side of every border; chance kinds three times."""
+    for row, what, make in models.DAMAGE:
+        if what.startswith("several"):      # pairs() takes their place
+            continue
+        times = 3 if row is None else 1
+        for k in range(1, times + 1):
+            rng = random.Random(f"{row} {what} {k}")
+            if row is None:
+                name = f"chance-{what}"
+            elif row == 0:
+                name = f"border-{what}"
+            else:
+                name = f"refused-{row:02d}-{what}"
+            yield (f"{name}-{k}" if times > 1 else name), make(rng)
+
+
+def pairs():
+    """Files that break two rows of the refusal table: the first of the two is printed."""
+    impossible = {(8, 12), (9, 10)}
+    for row in range(2, 12):
+        for later in range(row + 1, 13):
+            if (row, later) not in impossible:
+                rng = random.Random(f"{row} and {later}")
+                yield f"refused-{row:02d}-before-{later:02d}", models.several(row, [later])(rng)
+
+
+def moments():
+    """One model for each highest moment R."""
+    for R in range(1, 9):
+        yield f"moments-{R}", models.build(1, 3, R, 1_000, 40, [999_983, 31, 500_000],
+                                           [[70_001, 3], [90_007, 11], [0, 123_457]])
+
+
+def states():
+    """One model for each of some numbers of states, with a level that is quick."""
+    for M in (1, 2, 3, 4, 5, 8, 13, 21, 32, 63, 64):
+        rng = random.Random(M)
+        yield f"states-{M:02d}", models.build(**models.fields_for(rng, M, 999_983, 3, R=1 + M % 3, eps=100))
+
+
+def jump_counts():
+    """X = E * T, the expected jump count q in millionths: below 1, at whole numbers, 256."""
+    for X in (1, 2, 1_000, 500_000, 999_999, 1_000_000, 1_000_001, 1_999_999, 2_000_000, 2_000_001, 9_999_991):
+        yield f"q-millionths-{X:09d}", models.build(1, 2, 3, 7, 1, [2, 1], [[X], [X // 2]])
+    for E, T in ((10_000_000, 25), (8_000_000, 32), (1_000_000, 256), (1_000, 256_000), (1, 256_000_000)):
+        yield f"q-millionths-{E * T:09d}-rate-{E}", models.build(1, 2, 3, 1, T, [5, 2], [[E], [E // 3]])
+
+
+def levels():
+    """The level on a knife's edge, and over the range of tolerances."""
+    for X, n, eps in models.LEVEL_EDGES:
+        E, T = models.factors(X)
+        yield f"level-edge-{X:09d}-at-{n}", models.build(1, 2, 1, eps, T, [1, 0], [[E], [E // 2]])
+    for power in range(9):
+        yield f"level-tolerance-{10**power:09d}", models.build(1, 2, 2, 10**power, 11, [1, 3], [[1_234_567], [89]])
+
+
+def roundings():
+    """The rounding of weights and of the terms of A, where it reaches the printed digits."""
+    for k, (eps, T, f1, f2, out, back) in enumerate(models.ROUNDING_EDGES, 1):
+        yield f"rounding-{k}", models.build(1, 2, 8, eps, T, [f1, f2], [[out], [back]])
+
+
+def kinds():
+    """Two models of every other small kind, one larger one and the heaviest."""
+    for kind in models.SMALL_KINDS:
+        if kind in (models.level_edge, models.rounding_edge):
+            continue
+        for k in (1, 2):
+            rng = random.Random(f"{kind.__name__} {k}")
+            yield f"valid-{kind.__name__.replace('_', '-')}-{k}", models.build(**kind(rng))
+    yield "valid-medium", models.build(**models.medium(random.Random(1)))
+    yield "valid-heaviest", models.build(**models.heaviest(random.Random(1)))
+
+
+def all_files():
+    for group in (hand_checked, borders, pairs, moments, states, jump_counts, levels, roundings, kinds):
+        yield from group()
+
+
+def main():
+    if len(sys.argv) > 1:
+        print("make.py: takes no arguments", file=sys.stderr)
+        return 2
+    os.makedirs(FILES, exist_ok=True)
+    written, size = set(), 0
+    for name, file in all_files():
+        for ending, content in ((".model", file), (".sheet", calculator.sheet(file))):
+            if name + ending in written:
+                print(f"make.py: two files are named {name}", file=sys.stderr)
+                return 2
+            with open(os.path.join(FILES, name + ending), "wb") as target:
+                target.write(content)
+            written.add(name + ending)
+            size += len(content)
+    for name in sorted(set(os.listdir(FILES)) - written):      # left from an earlier kit
+        if name.endswith((".model", ".sheet")):
+            os.remove(os.path.join(FILES, name))
+    print(f"wrote {len(written) // 2} models with their sheets, {size} bytes")
+    return 0
+
+
+if __name__ == "__main__":
+    sys.exit(main())

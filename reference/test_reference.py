@@ -1,0 +1,340 @@
+#!/usr/bin/env python3
+"""Tests of the reference calculator: python3 reference/test_reference.py"""
+
+import math
+import os
+import random
+import subprocess
+import sys
+import unittest
+from fractions import Fraction
+
+sys.dont_write_bytecode = True
+HERE = os.path.dirname(os.path.abspath(__file__))
+sys.path.insert(0, HERE)
+
+import calculator  # noqa: E402
+import models  # noqa: E402
+from calculator import ONE, outcome, sheet  # noqa: E402
+
+A = bytes.fromhex("00 0F 01 01 01 00 00 27 10 00 00 00 01 00 00 00 05")
+B = bytes.fromhex("00 1B 01 02 02 05 F5 E1 00 00 00 00 01 00 00 00 01 00 00 00 00"
+                  "00 0F 42 40 00 0F 42 40")
+B_SHEET = (b"level 3\n"
+           b"1 1 0.718749999999\n"
+           b"1 2 0.612499999999\n"
+           b"2 1 0.281249999999\n"
+           b"2 2 0.174999999999\n")
+
+
+def put(file, start, size, value):
+    """The file with a number of `size` bytes written from byte `start`."""
+    return file[:start] + value.to_bytes(size, "big") + file[start + size:]
+
+
+def expected_row(name):
+    """The row a generated name tells: 1 to 13, 0 for accepted, None where it is left open."""
+    word = name.split("-")[1]
+    if word.startswith("refused"):
+        return int(word[7:])
+    return {"accepted": 0, "valid": 0, "open": None}[word]
+
+
+class HandCheckedFiles(unittest.TestCase):
+
+    def test_A(self):
+        cells = [7, 7]
+        self.assertEqual(calculator.calculate(A, cells), ("level", 1))
+        self.assertEqual(cells, [ONE, 7])
+        self.assertEqual(sheet(A), b"level 1\n1 1 1.000000000000\n")
+
+    def test_B(self):
+        cells = [7] * 6
+        self.assertEqual(calculator.calculate(B, cells), ("level", 3))
+        self.assertEqual(cells, [718749999999, 612499999999, 281249999999, 174999999999, 7, 7])
+
+    def test_sheet_of_B(self):
+        self.assertEqual(sheet(B), B_SHEET)
+
+    def test_weights_of_B(self):
+        self.assertEqual(calculator.weights(1_000_000, 3),
+                         [10**15, 10**15, 5 * 10**14, 166666666666666])
+
+    def test_B_at_2_is_not_the_level(self):
+        w = calculator.weights(1_000_000, 3)
+        self.assertEqual(calculator.tail(w, 1_000_000, 2), 250000000000001)
+        self.assertEqual(sum(w[:3]) * 100_000_000 // 10**9, 250000000000000)
+        self.assertEqual(calculator.level(1_000_000, 100_000_000), 3)
+
+    def test_vectors_of_B(self):
+        U = calculator.reward_vectors(calculator.read_model(B), 3)
+        self.assertEqual(U[3][1], [499999999999, 499999999999])
+        self.assertEqual(U[2][2], [499999999999, 166666666666])
+
+    def test_refused(self):
+        self.assertEqual(outcome(put(B, 13, 8, 0), 512), ("refused", 10))
+        self.assertEqual(outcome(put(put(B, 2, 1, 9), 3, 1, 0), 512), ("refused", 3))
+        self.assertEqual(outcome(put(B, 9, 4, 257), 512), ("refused", 12))
+        self.assertEqual(outcome(put(B, 5, 4, 100_000_001), 512), ("refused", 7))
+
+    def test_accepted(self):
+        self.assertEqual(outcome(put(B, 9, 4, 256), 512)[0], "level")
+        self.assertEqual(outcome(put(B, 21, 4, 10_000_000), 512)[0], "level")
+        self.assertEqual(outcome(put(B, 5, 4, 1), 512)[0], "level")
+        self.assertEqual(outcome(B, 4), ("level", 3))
+
+
+class RefusalTable(unittest.TestCase):
+
+    def test_small_examples(self):
+        examples = {
+            1: b"",
+            2: A[:-1],
+            3: put(A, 2, 1, 2),
+            4: put(A, 3, 1, 0),
+            5: put(A, 4, 1, 9),
+            6: put(A, 3, 1, 2),
+            7: put(A, 5, 4, 0),
+            8: put(A, 9, 4, 0),
+            9: put(A, 13, 4, 1_000_001),
+            10: put(A, 13, 4, 0),
+            11: put(B, 21, 4, 10_000_001),
+            12: put(B, 9, 4, 257),
+        }
+        for row, file in examples.items():
+            with self.subTest(row=row):
+                self.assertEqual(outcome(file, 512), ("refused", row))
+                self.assertEqual(sheet(file), b"refused %d\n" % row)
+                # Every earlier row counts before row 13.
+                self.assertEqual(outcome(file, 0), ("refused", row))
+
+    def test_too_few_cells(self):
+        self.assertEqual(outcome(B, 3), ("refused", 13))
+        cells = [7, 8, 9]
+        self.assertEqual(calculator.calculate(B, cells), ("refused", 13))
+        self.assertEqual(cells, [7, 8, 9])
+        self.assertEqual(outcome(B, 4), ("level", 3))
+
+    def test_cells_stay_unchanged(self):
+        for name, file in models.damaged_models(3, len(models.DAMAGE)):
+            cells = list(range(512))
+            word, _ = calculator.calculate(file, cells)
+            if word == "refused":
+                self.assertEqual(cells, list(range(512)), name)
+
+    def test_damage_reaches_its_row(self):
+        reached = set()
+        for name, file in models.damaged_models(1, 5 * len(models.DAMAGE)):
+            row = expected_row(name)
+            printed = sheet(file)
+            if row:
+                self.assertEqual(printed, b"refused %d\n" % row, name)
+                reached.add(row)
+            elif row == 0:
+                self.assertTrue(printed.startswith(b"level "), name)
+        self.assertEqual(reached, set(range(1, 13)))
+
+    def test_generated_cells(self):
+        for name, file, cells in models.few_cells_models(1, 60):
+            row = expected_row(name)
+            result = outcome(file, cells)
+            if row:
+                self.assertEqual(result, ("refused", row), name)
+            else:
+                self.assertEqual(result[0], "level", name)
+
+    def test_valid_models_are_accepted(self):
+        for name, file in models.valid_models(1, 300):
+            word, N = outcome(file, 512)
+            self.assertEqual(word, "level", name)
+            self.assertLessEqual(N, 1024, name)
+
+    def test_only_16398_bytes_are_judged(self):
+        # In full, 65 states are refused as such; the program reads too few bytes to see them.
+        full = models.full_size(65)
+        self.assertEqual(outcome(full, 512), ("refused", 4))
+        self.assertEqual(sheet(full), b"refused 2\n")
+        # The largest accepted file is one byte below the reading limit.
+        self.assertEqual(len(models.full_size(64)), 16397)
+        self.assertTrue(sheet(models.full_size(64)).startswith(b"level "))
+
+
+class WhereHandSolutionsGoWrong(unittest.TestCase):
+
+    def setUp(self):
+        self.U = calculator.reward_vectors(calculator.read_model(B), 3)
+
+    def test_vector_is_not_overwritten_state_by_state(self):
+        self.assertEqual(self.U[1][1][1], 500000000000)
+
+    def test_W_takes_the_vector_of_the_same_n(self):
+        self.assertEqual(self.U[1][2][0], 333333333333)
+
+    def test_divided_by_S_and_not_by_e_to_the_q(self):
+        w = calculator.weights(1_000_000, 3)
+        self.assertEqual(calculator.moment(w, self.U, 3, 0, 1), 718749999999)
+        divided_by_e = 0.718749999999 * sum(w) / (10**15 * math.e)
+        self.assertAlmostEqual(divided_by_e, 0.7051, places=4)
+
+    def test_weights_start_at_m(self):
+        X = 256_000_000
+        w = calculator.weights(X, 358)
+        self.assertEqual(w[256], 10**15)
+        self.assertEqual(max(w), 10**15)
+        self.assertLess(sum(w), 2**64)
+        from_zero = 10**15
+        for n in range(256):
+            from_zero = from_zero * X // ((n + 1) * 10**6)
+        self.assertGreaterEqual(from_zero, 2**64)
+
+    def test_no_diagonal_in_the_file(self):
+        model = calculator.read_model(B)
+        self.assertEqual(model.c, [[0, 1_000_000], [1_000_000, 0]])
+        with_diagonal = models.build(1, 2, 2, 100_000_000, 1, [1, 0], [[0, 1_000_000], [1_000_000, 0]])
+        self.assertEqual(outcome(with_diagonal, 512), ("refused", 6))
+
+
+class Level(unittest.TestCase):
+
+    def test_edges(self):
+        for X, n, epsilon in models.LEVEL_EDGES:
+            w = calculator.weights(X, n)
+            t, bound = calculator.tail(w, X, n), sum(w) * epsilon // 10**9
+            without_steps = 1 + w[n] * X // ((n + 1) * 10**6 - X)       # t without n - m
+            self.assertEqual(calculator.level(X, epsilon), n if t == bound else n + 1)
+            self.assertTrue(t in (bound, bound + 1) or without_steps <= bound < t)
+
+    def test_heaviest(self):
+        self.assertEqual(calculator.level(256_000_000, 1), 358)
+
+    def test_never_below_relation_10(self):
+        # Relation (10) of document 000: the least n whose Poisson weights up to n, over e^q,
+        # reach 1 - tolerance. e^q is not a fraction, so it is taken from above and below.
+        rng = random.Random(10)
+        for _ in range(60):
+            X = models.log_uniform(rng, 1, 30_000_000)
+            epsilon = models.random_tolerance(rng)
+            N = calculator.level(X, epsilon)
+            q, term, total, tail_terms = Fraction(X, 10**6), Fraction(1), Fraction(0), Fraction(0)
+            for n in range(N + 120):
+                if n <= N:
+                    total += term
+                else:
+                    tail_terms += term
+                term = term * q / (n + 1)
+            tail_terms += 2 * term           # the rest, term + ..., is below twice its first
+            self.assertLessEqual(tail_terms, (total + tail_terms) * Fraction(epsilon, 10**9))
+
+    def test_largest_level_in_range(self):
+        for X in range(1_000_000, 256_000_001, 5_000_000):
+            self.assertLessEqual(calculator.level(X, 1), 1024)
+
+
+class ExactAverage(unittest.TestCase):
+
+    def test_average_of_B(self):
+        model = calculator.read_model(B)
+        self.assertEqual(calculator.average(model, 3, 1, 1), Fraction(23, 32))
+        self.assertEqual(calculator.average(model, 3, 2, 1), Fraction(9, 32))
+
+    def check_demand_3(self, name, file):
+        """Each printed moment against the average up to N and beyond."""
+        model = calculator.read_model(file)
+        cells = [None] * (model.M * model.R)
+        _, N = calculator.calculate(file, cells)
+        averages = calculator.averages(model, [N, N + 1, N + 7, N + 25])
+        for L, rows in averages.items():
+            tolerance = Fraction(model.epsilon, 10**9) if L > N else 0
+            for i in range(model.M):
+                for r in range(1, model.R + 1):
+                    ticks = cells[i * model.R + r - 1]
+                    self.assertTrue(0 <= ticks <= ONE, name)
+                    distance = abs(Fraction(ticks, ONE) - rows[i][r - 1])
+                    self.assertLessEqual(distance, tolerance + Fraction(3 * N + 2 * r + 3, ONE), (name, L, i, r))
+
+    def test_demand_3_on_small_models(self):
+        for seed in range(100):
+            rng = random.Random(seed)
+            M = rng.randint(1, 5)
+            E = rng.choice([models.log_uniform(rng, 1, 10_000_000), 10_000_000, 1_000_000, 3])
+            T = models.log_uniform(rng, 1, max(1, 20_000_000 // E))
+            fields = models.fields_for(rng, M, E, T, R=rng.randint(1, 5))
+            self.check_demand_3(f"seed {seed}", models.build(**fields))
+
+    def test_demand_3_on_valid_models(self):
+        checked = 0
+        for name, file in models.valid_models(3, 250):
+            _, N = outcome(file, 512)
+            if file[3]**2 * file[4] * N <= 4000:       # M * M * R * N: few enough fractions
+                self.check_demand_3(name, file)
+                checked += 1
+        self.assertGreater(checked, 50)
+
+    def test_demand_3_at_q_256(self):
+        file = models.build(1, 2, 2, 1, 256, [3, 1], [[1_000_000], [700_000]])
+        self.check_demand_3("q 256", file)
+
+
+class Printing(unittest.TestCase):
+
+    def test_moments_are_in_range_and_in_order(self):
+        for name, file in models.valid_models(8, 40):
+            lines = sheet(file).decode("ascii").split("\n")
+            self.assertEqual(lines.pop(), "", name)
+            M, R = file[3], file[4]
+            self.assertEqual(len(lines), 1 + M * R, name)
+            for k, line in enumerate(lines[1:]):
+                self.assertRegex(line, r"\A[0-9]+ [0-9] [01]\.[0-9]{12}\Z")
+                self.assertTrue(line.startswith(f"{k // R + 1} {k % R + 1} "), name)
+                self.assertLessEqual(line.split()[2], "1.000000000000")
+
+
+class Examples(unittest.TestCase):
+
+    def stored(self, name):
+        with open(os.path.join(os.path.dirname(HERE), "examples", name), "rb") as source:
+            return source.read()
+
+    def test_stored_sheets(self):
+        self.assertEqual((self.stored("A.model"), self.stored("B.model")), (A, B))
+        for name in ("A", "B", "pair", "multiprocessor", "multiprocessor-16"):
+            self.assertEqual(sheet(self.stored(name + ".model")), self.stored(name + ".sheet"), name)
+
+    def test_multiprocessor_against_closed_form(self):
+        # Processors are almost never all down, so the mean is that of the buffer alone: an
+        # on-off pair with failure rate a and repair rate b, started up.
+        for name, stages, t in (("multiprocessor", 64, 720), ("multiprocessor-16", 1024, 100)):
+            a, b = stages * 0.00131, 0.1666
+            rest = (1 - math.exp(-(a + b) * t)) / ((a + b) * t)
+            mean = b / (a + b) + a / (a + b) * rest
+            printed = float(self.stored(name + ".sheet").split(b"\n")[1].split()[2])
+            self.assertLess(abs(printed - mean), 0.00001, name)
+
+
+class Program(unittest.TestCase):
+
+    def run_program(self, arguments, given=b""):
+        command = [sys.executable, "-B", os.path.join(HERE, "calculator.py")] + arguments
+        return subprocess.run(command, input=given, capture_output=True, check=False)
+
+    def test_standard_input(self):
+        result = self.run_program([], B)
+        self.assertEqual((result.returncode, result.stdout, result.stderr), (0, B_SHEET, b""))
+
+    def test_empty_input(self):
+        result = self.run_program([])
+        self.assertEqual((result.returncode, result.stdout), (0, b"refused 1\n"))
+
+    def test_long_input(self):
+        result = self.run_program([], models.full_size(64) + bytes(100_000))
+        self.assertEqual((result.returncode, result.stdout), (0, b"refused 2\n"))
+
+    def test_wrong_arguments(self):
+        for arguments in (["no-such-file"], ["--wrong"], ["a", "b"], [HERE]):
+            result = self.run_program(arguments)
+            self.assertEqual((result.returncode, result.stdout), (2, b""))
+            self.assertEqual(result.stderr.count(b"\n"), 1)
+
+
+if __name__ == "__main__":
+    unittest.main()
