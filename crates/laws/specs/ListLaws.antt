@@ -69,3 +69,7 @@ over-same n f g l h = ap (λ (x : List ℕ). x ++ drop n l) (firsts-same n f g h
 pub over-all : (n : ℕ) (f : ℕ → ℕ) (l : List ℕ) → length l ≡ n → over n f l ≡ firsts n f
 unfolding over
 over-all n f l e = ap (λ (x : List ℕ). firsts n f ++ x) (drop-of-length-le l {i = n} (omega arith)) ∙ append-nil (firsts n f)
+
+-- a loop that fills a list from the front: one store more
+pub over-store : (n : ℕ) (f : ℕ → ℕ) (l now : List ℕ) (v : ℕ) → n < length l → now ≡ over n f l → v ≡ f n → set now n v ≡ over (n + 1) f l
+over-store n f l now v h e q = ap₂ (λ (x : List ℕ) (y : ℕ). set x n y) e q ∙ over-more n f l h

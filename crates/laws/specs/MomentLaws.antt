@@ -5,11 +5,16 @@ use native.Mathlib.Nat.{mul-add-div-right, mul-add-mod-self-right, div-eq-of-lt,
 use mathlib.Core.Path.{_≡_, refl, sym, _∙_, ap, ap₂}
 use mathlib.Core.List.{List}
 use lib.ListN.{length, getD}
+use Rattle.definitions.specs.declared.Judgement.{Judgement}
+use Rattle.definitions.specs.declared.Judgement.the-variants as judged
+use Rattle.definitions.specs.declared.Outcome.{Outcome}
+use Rattle.definitions.specs.declared.Outcome.the-variants as ended
 use Rattle.definitions.specs.Sums.{sum, over}
-use Rattle.definitions.specs.Chain.{Model}
+use Rattle.definitions.specs.Chain.{Model, modelOf}
 use Rattle.definitions.specs.Vectors.{ONE}
 use Rattle.definitions.specs.Weights.{GREATEST, mode, weight, weightSum}
-use Rattle.definitions.specs.Moment.{term, weighted, lastQuotient, weightedMean, moment, cellOf, cell}
+use Rattle.definitions.specs.Moment.{term, weighted, lastQuotient, weightedMean, moment, cellOf, cell, modelLevel, answered, outcome}
+use Rattle.definitions.specs.Rules.{judgement}
 use Rattle.laws.specs.Rounding.{quotient-low, quotient-high, quotient-at-most}
 use Rattle.laws.specs.SumLaws.{sum-mono}
 use Rattle.laws.specs.ListLaws.{getD-over}
@@ -58,3 +63,26 @@ last-down X N u reached h =
       high = omega (arith, quotient-high (A * ONE) S pos);
       top = quotient-at-most (A * ONE) ONE S (omega (arith, weighted-max X N u h));
     }
+
+-- the outcome of a refused file, and of an accepted one
+pub outcome-refused : (s : List ℕ) (cells k : ℕ) → judgement s cells ≡ judged.Refused k → outcome s cells ≡ ended.Refused k
+unfolding outcome answered
+outcome-refused s cells k e = ap (λ (j : Judgement). answered j s) e
+
+pub outcome-accepted : (s : List ℕ) (cells : ℕ) → judgement s cells ≡ judged.Accepted → outcome s cells ≡ ended.Level (modelLevel (modelOf s))
+unfolding outcome answered
+outcome-accepted s cells e = ap (λ (j : Judgement). answered j s) e
+
+-- an acceptance is no refusal, whatever their numbers
+pub level-is-no-refusal : (n k : ℕ) → ended.Level n ≡ ended.Refused k → ⊥
+level-is-no-refusal n k e = let z : _≡_ {A = ℕ} 0 1 = cc in omega arith
+
+-- a level is answered of an accepted file alone
+pub level-accepted : (s : List ℕ) (cells n : ℕ) → outcome s cells ≡ ended.Level n → judgement s cells ≡ judged.Accepted
+unfolding outcome answered
+level-accepted s cells n e = from (judgement s cells) refl
+  where
+    from : (j : Judgement) → judgement s cells ≡ j → judgement s cells ≡ judged.Accepted
+    from judged.Accepted h = h
+    from (judged.Refused k) h =
+        absurd (level-is-no-refusal n k (sym e ∙ ap (λ (i : Judgement). answered i s) h))

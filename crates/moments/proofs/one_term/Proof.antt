@@ -1,0 +1,37 @@
+-- One term of A: small weights by a plain product, the others by multiply-then-divide.
+use Prim.Native.Nat.{ℕ, _*_, _/_, _≤_, _<_}
+use native.Mathlib.Nat.{mul-le-mul, mul-le-mul-left}
+use native.Mathlib.Omega.{arith}
+use mathlib.Core.Path.{_≡_, refl}
+use Rattle.definitions.specs.Moment.{term}
+use Rattle.laws.specs.Rounding.{quotient-at-most}
+use Rattle.muldiv.specs.QuotientLaws.{scalable-part}
+use Rattle.moments.proofs.one_term.Statement.{statement}
+use Rattle.moments.proofs.one_term.Tie as tie
+use Rattle.moments.proofs.one_term.Reads as reads
+use Rattle.moments.proofs.one_term.Lts as lts
+use Rattle.muldiv.proofs.scaled.Reads as scaled-reads
+
+-- a term is at most its weight
+term-max : (w u : ℕ) → u ≤ 1000000000000 → w * u / 1000000000000 ≤ w
+term-max w u h = quotient-at-most (w * u) w 1000000000000 (mul-le-mul-left w h)
+
+mul-result : tie.Need-mul-result
+mul-result c = record { fits = omega (arith, mul-le-mul (c .if1 .taken) (c .before .pre .1)) }
+
+returns : tie.Need-returns
+unfolding term
+returns c = (refl, term-max (c .before .args .w) (c .before .args .u) (c .before .pre .1))
+
+scaled-requires : tie.Need-scaled-requires
+scaled-requires c κs = scalable-part (c .before .args .w) (c .before .args .u) 1000000000000 (omega arith) (omega arith) (omega arith) (omega arith)
+
+returns-2 : tie.Need-returns-2
+unfolding term
+returns-2 c =
+    let w = c .before .before .args .w in
+    let u = c .before .before .args .u in
+    (c .scaled .ensures, omega (arith, c .scaled .ensures, term-max w u (c .before .before .pre .1)))
+
+pub one-term-spec : {M : Type 1} → statement M
+one-term-spec = tie.close (tie.spec mul-result returns scaled-requires returns-2)

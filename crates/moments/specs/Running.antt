@@ -1,0 +1,49 @@
+-- The running sums A of all cells, and what the functions that make them need.
+use mathlib.Core.List.{List, []}
+use mathlib.Core.Path.{_≡_}
+use Prim.Native.Nat.{ℕ, _+_, _*_, _/_, _%_, _≤_, _<_, _^_}
+use lib.Dec.{ltb}
+use lib.ListN.{length, getD}
+use Rattle.definitions.specs.Sums.{sum, firsts, pick}
+use Rattle.definitions.specs.Chain.{Chain}
+use Rattle.definitions.specs.Vectors.{ONE, U}
+use Rattle.definitions.specs.Weights.{GREATEST}
+use Rattle.definitions.specs.Moment.{term}
+use Rattle.vectors.specs.Ready.{Ready}
+
+-- U(n,r) at i in a table of vectors, for the state i and the r of cell k
+abbrev pub inTable : List (List ℕ) → ℕ → ℕ → ℕ
+inTable table R k = getD (getD table (k % R + 1) []) (k / R) 0
+
+-- the first n terms of A, for the state and the r of cell k, with the weights in a list
+unfoldable pub partSum : Chain → List ℕ → ℕ → ℕ → ℕ → ℕ
+partSum ch w R n k = sum n (λ j. term (getD w j 0) (U ch j (k % R + 1) (k / R)))
+
+-- the same for every cell below M × R, and 0 past them
+unfoldable pub partSums : Chain → List ℕ → ℕ → ℕ → List ℕ
+partSums ch w R n = firsts 512 (λ k. pick (ltb k (ch .states * R)) (partSum ch w R n k) 0)
+
+-- the terms of one n may be added to the sums: count is M × R
+pub record Addable (sums : List ℕ) (table : List (List ℕ)) (w M R : ℕ) : Type 0 where
+  pub entries : length sums ≡ 512
+  pub states-max : M ≤ 64
+  pub highest-pos : 1 ≤ R
+  pub highest-max : R ≤ 8
+  pub weight-max : w ≤ GREATEST
+  pub ticks-max : (k : ℕ) → k < M * R → inTable table R k ≤ ONE
+  pub room : (k : ℕ) → k < M * R → getD sums k 0 ≤ 1000 * GREATEST
+
+-- the sums may be divided by S
+pub record Divisible (sums : List ℕ) (S count : ℕ) : Type 0 where
+  pub count-max : count ≤ 512
+  pub total-pos : 0 < S
+  pub total-max : S < 2 ^ 62
+  pub below : (k : ℕ) → k < count → getD sums k 0 ≤ S
+
+-- what the sums up to level N are made from: the arrays of a chain, the highest moment R and the weights w
+pub record Summable (c f : List ℕ) (M E F R : ℕ) (w : List ℕ) (N : ℕ) : Type 0 where
+  pub ready : Ready c f M E F
+  pub highest-pos : 1 ≤ R
+  pub highest-max : R ≤ 8
+  pub level-max : N ≤ 563
+  pub weight-max : (n : ℕ) → n ≤ N → getD w n 0 ≤ GREATEST

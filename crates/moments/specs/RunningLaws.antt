@@ -1,0 +1,139 @@
+-- The running sums: none at first, one n more at a time, and their range.
+use mathlib.Core.List.{List, []}
+use mathlib.Core.Path.{_≡_, refl, sym, _∙_, ap, ap₂}
+use Prim.Native.Nat.{ℕ, zero, suc, _+_, _*_, _/_, _%_, _≤_, _<_}
+use native.Mathlib.Decide.{decLt}
+use native.Mathlib.Nat.{mod-lt, div-lt-iff-lt-mul, mul-le-mul, mul-le-mul-left, mul-le-mul-right, le-trans}
+use native.Mathlib.Numerals.{add-one}
+use native.Mathlib.Omega.{arith}
+use lib.Dec.{ltb}
+use lib.ListN.{length, getD, replicate, length-replicate, getD-replicate}
+use lib.Seq.{ext-getD}
+use borrow.Author.Tests.{lt-ltb, le-ltb}
+use Rattle.definitions.specs.Sums.{sum, firsts, over, pick}
+use Rattle.definitions.specs.Chain.{Chain, arrays}
+use Rattle.definitions.specs.Vectors.{ONE, U}
+use Rattle.definitions.specs.Weights.{GREATEST}
+use Rattle.definitions.specs.Moment.{term}
+use Rattle.laws.specs.Rounding.{quotient-at-most}
+use Rattle.laws.specs.SumLaws.{sum-zero, sum-suc, sum-mono, sum-constant}
+use Rattle.laws.specs.ListLaws.{length-firsts, getD-firsts, length-over, getD-over, getD-over-past}
+use Rattle.laws.specs.VectorLaws.{Stochastic, U-bound}
+use Rattle.vectors.specs.Ready.{Ready}
+use Rattle.vectors.specs.Table.{tableOf}
+use Rattle.vectors.specs.TableLaws.{table-entry}
+use Rattle.moments.specs.Running.{inTable, partSum, partSums, Addable, Summable}
+
+-- the r and the state of a cell below M × R
+pub row-of-cell : (k R : ℕ) → 1 ≤ R → k % R + 1 ≤ R
+row-of-cell k R low = omega (arith, mod-lt k {m = R} low)
+
+pub state-of-cell : (k M R : ℕ) → 1 ≤ R → k < M * R → k / R < M
+state-of-cell k M R low h = div-lt-iff-lt-mul {k = R} {x = k} {y = M} low .1 h
+
+-- M × R is at most 512
+pub count-max : (M R : ℕ) → M ≤ 64 → R ≤ 8 → M * R ≤ 512
+count-max M R h l = omega (arith, mul-le-mul h l)
+
+-- a term is at most its weight
+pub term-max : (w u : ℕ) → u ≤ ONE → term w u ≤ w
+unfolding term
+term-max w u h = quotient-at-most (w * u) w ONE (mul-le-mul-left w h)
+
+module _ (ch : Chain) (w : List ℕ) (R : ℕ) where
+  pub length-sums : (n : ℕ) → length (partSums ch w R n) ≡ 512
+  unfolding partSums
+  length-sums n = length-firsts 512 (λ k. pick (ltb k (ch .states * R)) (partSum ch w R n k) 0)
+
+  pub sums-at : (n k : ℕ) → k < 512 → k < ch .states * R → getD (partSums ch w R n) k 0 ≡ partSum ch w R n k
+  unfolding partSums
+  sums-at n k h l = getD-firsts 512 (λ j. pick (ltb j (ch .states * R)) (partSum ch w R n j) 0) k h ∙ rw (lt-ltb k (ch .states * R) l)
+
+  sums-past : (n k : ℕ) → k < 512 → ch .states * R ≤ k → getD (partSums ch w R n) k 0 ≡ 0
+  unfolding partSums
+  sums-past n k h l = getD-firsts 512 (λ j. pick (ltb j (ch .states * R)) (partSum ch w R n j) 0) k h ∙ rw (le-ltb k (ch .states * R) l)
+
+  part-next : (n k : ℕ) → partSum ch w R (n + 1) k ≡ partSum ch w R n k + term (getD w n 0) (U ch n (k % R + 1) (k / R))
+  unfolding partSum
+  part-next n k =
+      ap (λ (x : ℕ). partSum ch w R x k) (add-one n) ∙ sum-suc n (λ j. term (getD w j 0) (U ch j (k % R + 1) (k / R)))
+
+  -- no terms yet
+  pub sums-none : replicate 512 0 ≡ partSums ch w R 0
+  sums-none =
+      ext-getD 0 (replicate 512 0) (partSums ch w R 0) (sym (length-sums 0))
+      (λ k h. getD-replicate 512 k 0 0 h ∙ sym (none k h))
+    where
+      none : (k : ℕ) → k < 512 → getD (partSums ch w R 0) k 0 ≡ 0
+      none k h =
+          elim (decLt k (ch .states * R)) [
+            | yes l ↦ sums-at 0 k h l ∙ (unfold partSum in sum-zero (λ j. term (getD w j 0) (U ch j (k % R + 1) (k / R))))
+            | no l ↦ sums-past 0 k h (omega (arith, l))
+          ]
+
+  module _ (states-max : ch .states ≤ 64) (highest-pos : 1 ≤ R) (highest-max : R ≤ 8) where
+    in-table : (n k : ℕ) → k < ch .states * R → inTable (tableOf ch R n) R k ≡ U ch n (k % R + 1) (k / R)
+    in-table n k l =
+        table-entry ch R n (k % R + 1) (k / R) highest-max (row-of-cell k R highest-pos) states-max (state-of-cell k (ch .states) R highest-pos l)
+
+    -- one term more in each sum
+    pub sums-next : (n : ℕ) → over (ch .states * R) (λ k. getD (partSums ch w R n) k 0 + term (getD w n 0) (inTable (tableOf ch R n) R k)) (partSums ch w R n) ≡ partSums ch w R (n + 1)
+    sums-next n =
+        ext-getD 0 (over (ch .states * R) more (partSums ch w R n)) (partSums ch w R (n + 1)) (long ∙ sym (length-sums (n + 1)))
+        (λ k h. at k (omega (arith, long)))
+      where
+        more : ℕ → ℕ
+        more k = getD (partSums ch w R n) k 0 + term (getD w n 0) (inTable (tableOf ch R n) R k)
+
+        long : length (over (ch .states * R) more (partSums ch w R n)) ≡ 512
+        long = length-over (ch .states * R) more (partSums ch w R n) (omega (arith, length-sums n, count-max (ch .states) R states-max highest-max)) ∙ length-sums n
+
+        added : (k : ℕ) → k < ch .states * R → getD (partSums ch w R n) k 0 ≡ partSum ch w R n k → more k ≡ partSum ch w R (n + 1) k
+        added k l e = ap₂ _+_ e (ap (term (getD w n 0)) (in-table n k l)) ∙ sym (part-next n k)
+
+        at : (k : ℕ) → k < 512 → getD (over (ch .states * R) more (partSums ch w R n)) k 0 ≡ getD (partSums ch w R (n + 1)) k 0
+        at k h =
+            elim (decLt k (ch .states * R)) [
+              | yes l ↦ getD-over (ch .states * R) more (partSums ch w R n) k l ∙ added k l (sums-at n k h l) ∙ sym (sums-at (n + 1) k h l)
+              | no l ↦ getD-over-past (ch .states * R) more (partSums ch w R n) k (omega (arith, l)) ∙ sums-past n k h (omega (arith, l)) ∙ sym (sums-past (n + 1) k h (omega (arith, l)))
+            ]
+
+    -- the sums stay small: a term is at most its weight
+    part-max : (n k : ℕ) → Stochastic ch → ((j : ℕ) → j < n → getD w j 0 ≤ GREATEST) → k < ch .states * R → partSum ch w R n k ≤ n * GREATEST
+    unfolding partSum
+    part-max n k s h l =
+        omega
+        (arith, sum-mono n (λ j. term (getD w j 0) (U ch j (k % R + 1) (k / R))) (λ j. GREATEST) (λ j b. le-trans (term-max (getD w j 0) _ (U-bound ch s j (k % R + 1) (k / R) (state-of-cell k (ch .states) R highest-pos l))) (h j b)), sum-constant n GREATEST)
+
+    -- the terms of n may be added to the sums of those before
+    pub addable : (n : ℕ) → n ≤ 563 → Stochastic ch → ((j : ℕ) → j ≤ n → getD w j 0 ≤ GREATEST) → Addable (partSums ch w R n) (tableOf ch R n) (getD w n 0) (ch .states) R
+    addable n small s h =
+        record {
+          entries = length-sums n;
+          states-max = states-max;
+          highest-pos = highest-pos;
+          highest-max = highest-max;
+          weight-max = h n (omega arith);
+          ticks-max = λ k l. rw (in-table n k l) (U-bound ch s n (k % R + 1) (k / R) (state-of-cell k (ch .states) R highest-pos l));
+          room = λ k l. room k l;
+        }
+      where
+        room : (k : ℕ) → k < ch .states * R → getD (partSums ch w R n) k 0 ≤ 1000 * GREATEST
+        room k l =
+            omega (arith, sums-at n k (omega (arith, count-max (ch .states) R states-max highest-max)) l, part-max n k s (λ j b. h j (omega arith)) l)
+
+-- the same for a function that holds the sums and the table of a chain in arrays
+module _ (c f : List ℕ) (M E F R : ℕ) (w : List ℕ) (N : ℕ) (g : Summable c f M E F R w N) where
+  abbrev ch : Chain
+  ch = arrays M E c f F
+
+  pub may-add : (n : ℕ) (sums : List ℕ) (table : List (List ℕ)) → n ≤ N → sums ≡ partSums ch w R n → table ≡ tableOf ch R n → Addable sums table (getD w n 0) M R
+  may-add n sums table h es et =
+      rw (es, et)
+      (addable ch w R (g .ready .states-max) (g .highest-pos) (g .highest-max) n (omega (arith, g .level-max)) (g .ready .stochastic) (λ j l. g .weight-max j (omega arith)))
+
+  pub added : (n : ℕ) (sums next : List ℕ) (table : List (List ℕ)) → sums ≡ partSums ch w R n → table ≡ tableOf ch R n → next ≡ over (M * R) (λ k. getD sums k 0 + term (getD w n 0) (inTable table R k)) sums → next ≡ partSums ch w R (n + 1)
+  added n sums next table es et e =
+      e
+      ∙ ap₂ (λ (s : List ℕ) (t : List (List ℕ)). over (M * R) (λ k. getD s k 0 + term (getD w n 0) (inTable t R k)) s) es et
+      ∙ sums-next ch w R (g .ready .states-max) (g .highest-pos) (g .highest-max) n

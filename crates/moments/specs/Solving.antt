@@ -1,0 +1,33 @@
+-- The moments of a chain that stands in arrays, for one expected jump count and one tolerance.
+use mathlib.Core.List.{List}
+use mathlib.Core.Path.{_≡_}
+use Prim.Native.Nat.{ℕ, _+_, _*_, _/_, _%_, _≤_, _<_}
+use Rattle.definitions.specs.Chain.{Model, Chain, chainOf, flat, padded, uniformRate, maxReward, jumpMillionths}
+use Rattle.definitions.specs.Vectors.{U}
+use Rattle.definitions.specs.Moment.{weightedMean}
+use Rattle.vectors.specs.Ready.{Ready}
+
+-- what stands in cell k: the weighted mean of U(n,r) at i, for the state i and the r of the cell
+unfoldable pub cellMean : Chain → ℕ → ℕ → ℕ → ℕ → ℕ
+cellMean ch X R N k = weightedMean X (λ n. U ch n (k % R + 1) (k / R)) N
+
+-- the limits of document 01, of a chain in arrays, the highest moment, X and ε
+pub record Solvable (c f : List ℕ) (M E F R X ε : ℕ) : Type 0 where
+  pub ready : Ready c f M E F
+  pub highest-pos : 1 ≤ R
+  pub highest-max : R ≤ 8
+  pub jumps-pos : 1 ≤ X
+  pub jumps-max : X ≤ 256000000
+  pub tolerance-pos : 1 ≤ ε
+  pub tolerance-max : ε ≤ 100000000
+
+-- the arrays and numbers that were read are those of a model
+pub record ReadAs (m : Model) (c f : List ℕ) (M E F R X ε : ℕ) : Type 0 where
+  pub entries : c ≡ flat (chainOf m)
+  pub rewards : f ≡ padded (m .states) (m .reward)
+  pub states : M ≡ m .states
+  pub rate : E ≡ uniformRate m
+  pub largest : F ≡ maxReward m
+  pub highest : R ≡ m .highest
+  pub jumps : X ≡ jumpMillionths m
+  pub tolerance : ε ≡ m .tolerance

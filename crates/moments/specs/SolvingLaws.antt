@@ -1,0 +1,127 @@
+-- The sums and their quotients are the weighted means, and those of a model's arrays are its moments.
+use mathlib.Core.List.{List}
+use mathlib.Core.Path.{_≡_, refl, sym, _∙_, ap, ap₂}
+use Prim.Native.Nat.{ℕ, zero, suc, _+_, _*_, _/_, _%_, _≤_, _<_, _^_}
+use native.Mathlib.Nat.{mul-le-mul}
+use native.Mathlib.Numerals.{add-one}
+use native.Mathlib.Omega.{arith}
+use lib.ListN.{length, getD}
+use Rattle.definitions.specs.Sums.{sum, firsts, over}
+use Rattle.definitions.specs.Chain.{Model, Chain, arrays, chainOf, padded, flat, uniformRate, maxReward, jumpMillionths}
+use Rattle.definitions.specs.Vectors.{ONE, U}
+use Rattle.definitions.specs.Weights.{GREATEST, mode, weight, weightSum}
+use Rattle.definitions.specs.Level.{level}
+use Rattle.definitions.specs.Moment.{term, weighted, lastQuotient, weightedMean, moment, cell, modelLevel}
+use Rattle.laws.specs.SumLaws.{sum-same}
+use Rattle.laws.specs.ListLaws.{getD-firsts, over-same}
+use Rattle.laws.specs.ChainLaws.{SameChain, arrays-same}
+use Rattle.laws.specs.VectorLaws.{Stochastic, U-bound, U-same}
+use Rattle.laws.specs.WeightLaws.{weight-max, weightSum-min, weightSum-max}
+use Rattle.laws.specs.LevelLaws.{level-max, level-mode}
+use Rattle.laws.specs.MomentLaws.{weighted-max}
+use Rattle.laws.specs.Acceptance.{Good, stochastic}
+use Rattle.vectors.specs.Ready.{Ready}
+use Rattle.vectors.specs.ModelLaws.{model-ready}
+use Rattle.moments.specs.Running.{partSum, partSums, Summable, Divisible}
+use Rattle.moments.specs.RunningLaws.{row-of-cell, state-of-cell, count-max, sums-at}
+use Rattle.moments.specs.Solving.{cellMean, Solvable, ReadAs}
+
+-- equal values up to N have equal weighted means
+pub mean-same : (X N : ℕ) (u v : ℕ → ℕ) → ((n : ℕ) → n ≤ N → u n ≡ v n) → weightedMean X u N ≡ weightedMean X v N
+unfolding weightedMean weighted
+mean-same X N u v h =
+    ap (λ (a : ℕ). lastQuotient a (weightSum X N))
+    (sum-same (suc N) (λ n. term (weight X n) (u n)) (λ n. term (weight X n) (v n)) (λ n l. ap (term (weight X n)) (h n (omega arith))))
+
+module _ (c f : List ℕ) (M E F R X ε : ℕ) (g : Solvable c f M E F R X ε) (w : List ℕ) (ew : w ≡ firsts 564 (weight X)) where
+  abbrev ch : Chain
+  ch = arrays M E c f F
+
+  short : level X ε ≤ 563
+  short = level-max X ε (g .jumps-max) (g .tolerance-pos)
+
+  weight-in : (n : ℕ) → n ≤ level X ε → getD w n 0 ≡ weight X n
+  weight-in n h = ap (λ (l : List ℕ). getD l n 0) ew ∙ getD-firsts 564 (weight X) n (omega (arith, short))
+
+  pub summable : Summable c f M E F R w (level X ε)
+  summable =
+      record {
+        ready = g .ready;
+        highest-pos = g .highest-pos;
+        highest-max = g .highest-max;
+        level-max = short;
+        weight-max = λ n h. rw (weight-in n h) (weight-max X n);
+      }
+
+  -- a sum up to the level is A
+  pub sum-is : (k : ℕ) → k < M * R → getD (partSums ch w R (level X ε + 1)) k 0 ≡ weighted X (λ n. U ch n (k % R + 1) (k / R)) (level X ε)
+  unfolding partSum weighted
+  sum-is k l =
+      sums-at ch w R (level X ε + 1) k (omega (arith, count-max M R (g .ready .states-max) (g .highest-max))) l
+      ∙ ap (λ (n : ℕ). partSum ch w R n k) (add-one (level X ε))
+      ∙ sum-same (suc (level X ε)) (λ j. term (getD w j 0) (U ch j (k % R + 1) (k / R))) (λ j. term (weight X j) (U ch j (k % R + 1) (k / R)))
+      (λ j b. ap (λ (v : ℕ). term v (U ch j (k % R + 1) (k / R))) (weight-in j (omega arith)))
+
+  sum-max : (k : ℕ) → k < M * R → weighted X (λ n. U ch n (k % R + 1) (k / R)) (level X ε) ≤ weightSum X (level X ε)
+  sum-max k l =
+      weighted-max X (level X ε) (λ n. U ch n (k % R + 1) (k / R))
+      (λ n h. U-bound ch (g .ready .stochastic) n (k % R + 1) (k / R) (state-of-cell k M R (g .highest-pos) l))
+
+  pub divisible : (a : List ℕ) (S : ℕ) → a ≡ partSums ch w R (level X ε + 1) → S ≡ weightSum X (level X ε) → Divisible a S (M * R)
+  divisible a S ea es =
+      rw (ea, es)
+      (record {
+        count-max = count-max M R (g .ready .states-max) (g .highest-max);
+        total-pos = omega (arith, weightSum-min X (level X ε) (level-mode X ε (g .jumps-max) (g .tolerance-pos)));
+        total-max = omega (arith, weightSum-max X (level X ε), short);
+        below = λ k l. rw (sum-is k l) (sum-max k l);
+      })
+
+  -- the quotients of the sums are the cells' means
+  pub means-are : (a : List ℕ) (S : ℕ) (cells : List ℕ) → a ≡ partSums ch w R (level X ε + 1) → S ≡ weightSum X (level X ε) → over (M * R) (λ k. lastQuotient (getD a k 0) S) cells ≡ over (M * R) (cellMean ch X R (level X ε)) cells
+  unfolding cellMean weightedMean
+  means-are a S cells ea es =
+      rw (ea, es)
+      (over-same (M * R) (λ k. lastQuotient (getD (partSums ch w R (level X ε + 1)) k 0) (weightSum X (level X ε))) (cellMean ch X R (level X ε)) cells
+      (λ k l. ap (λ (v : ℕ). lastQuotient v (weightSum X (level X ε))) (sum-is k l)))
+
+module _ (m : Model) (g : Good m) where
+  abbrev stored : Chain
+  stored = arrays (m .states) (uniformRate m) (flat (chainOf m)) (padded (m .states) (m .reward)) (maxReward m)
+
+  same : SameChain stored (chainOf m)
+  same = arrays-same (chainOf m) (g .states-max)
+
+  -- the arrays of an accepted model are within the limits
+  pub solvable : Solvable (flat (chainOf m)) (padded (m .states) (m .reward)) (m .states) (uniformRate m) (maxReward m) (m .highest) (jumpMillionths m) (m .tolerance)
+  solvable =
+      record {
+        ready = model-ready m g;
+        highest-pos = g .highest-pos;
+        highest-max = g .highest-max;
+        jumps-pos = g .jumps-pos;
+        jumps-max = g .jumps-max;
+        tolerance-pos = g .tolerance-pos;
+        tolerance-max = g .tolerance-max;
+      }
+
+  -- and their means are the model's moments
+  pub means-of-model : (cells : List ℕ) → over (m .states * m .highest) (cellMean stored (jumpMillionths m) (m .highest) (modelLevel m)) cells ≡ over (m .states * m .highest) (cell m (modelLevel m)) cells
+  unfolding cellMean cell moment
+  means-of-model cells =
+      over-same (m .states * m .highest) (cellMean stored (jumpMillionths m) (m .highest) (modelLevel m)) (cell m (modelLevel m)) cells
+      (λ k l. mean-same (jumpMillionths m) (modelLevel m) _ _ (λ n h. U-same stored (chainOf m) same n (k % m .highest + 1) (k / m .highest) (state-of-cell k (m .states) (m .highest) (g .highest-pos) l)))
+
+-- what was read of a good model can be solved, and its solution is the model's level and moments
+module _ (m : Model) (g : Good m) (c f : List ℕ) (M E F R X ε : ℕ) (e : ReadAs m c f M E F R X ε) where
+  pub solvable-read : Solvable c f M E F R X ε
+  solvable-read =
+      rw (e .entries, e .rewards, e .states, e .rate, e .largest, e .highest, e .jumps, e .tolerance) (solvable m g)
+
+  pub level-read : level X ε ≡ modelLevel m
+  unfolding modelLevel
+  level-read = ap₂ level (e .jumps) (e .tolerance)
+
+  pub cells-read : (cells : List ℕ) → over (M * R) (cellMean (arrays M E c f F) X R (level X ε)) cells ≡ over (m .states * m .highest) (cell m (modelLevel m)) cells
+  cells-read cells =
+      rw (level-read, e .entries, e .rewards, e .states, e .rate, e .largest, e .highest, e .jumps) (means-of-model m g cells)

@@ -1,0 +1,27 @@
+-- `poisson::step_left` meets its contract. Assumes nothing.
+use mathlib.Core.Path.{_≡_, sym, ap, _∙_}
+use Prim.Native.Nat.{ℕ, _*_, _/_}
+use native.Mathlib.Omega.{arith}
+use Rattle.definitions.specs.Weights.{weight}
+use Rattle.laws.specs.WeightLaws.{mode-low, weight-max}
+use Rattle.muldiv.specs.QuotientLaws.{scalable-part}
+use Rattle.poisson.proofs.Filling.{weight-before}
+use Rattle.poisson.proofs.step_left.Statement.{statement}
+use Rattle.poisson.proofs.step_left.Tie as tie
+
+mul-scaled : tie.Need-mul-scaled
+mul-scaled c = omega (arith, mode-low (c .args .x))
+
+scaled-requires : tie.Need-scaled-requires
+scaled-requires c κs =
+    let args = c .args in
+    scalable-part (args .w) _ (args .x) (omega (arith, mode-low (args .x))) (omega (arith, weight-max (args .x) (args .n))) (omega (arith, mode-low (args .x))) (omega arith)
+
+returns : tie.Need-returns
+returns c =
+    let args = c .before .args in
+    let given : args .w ≡ weight (args .x) (args .n) = c .before .pre .0 in
+    c .scaled .ensures ∙ ap (λ (w : ℕ). w * (args .n * 1000000) / args .x) given ∙ sym (weight-before (args .x) (args .n) (omega arith) (omega arith))
+
+pub step-left-spec : {M : Type 1} → statement M
+step-left-spec = tie.close (tie.spec mul-scaled scaled-requires returns)

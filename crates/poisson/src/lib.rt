@@ -1,0 +1,124 @@
+// The Poisson weights of an expected jump count q of x millionths, and the level at which their sum
+// is cut off: document 01, "Weights" and "Level".
+//
+// m is q rounded down. Weights are whole numbers in units of 10^-15: w(m) is 10^15, and each step
+// away from m is one multiplication and one division, rounded down.
+ghost use mathlib.Core.Path.{_≡_};
+ghost use Prim.Native.Nat.{_+_, _-_, _≤_, _<_};
+ghost use Rattle.definitions.specs.Sums.{firsts};
+ghost use Rattle.definitions.specs.Weights.{mode, weight, weightSum};
+ghost use Rattle.definitions.specs.Level.{passes?};
+ghost use Rattle.poisson.specs.Stages.{Holds, Truncated};
+
+// One jump in millionths.
+const MILLION: u64 = 1_000_000;
+
+// w(m).
+const GREATEST: u64 = 1_000_000_000_000_000;
+
+// The unit of the tolerance.
+const BILLION: u64 = 1_000_000_000;
+
+// Levels 0 to 563: x is at most 256,000,000, so m is at most 256, and no level is above 2m + 51.
+pub const LEVELS: usize = 564;
+
+// w(0) to w(563).
+pub fn weights(x: u64) -> [u64; LEVELS]
+    requires { ⌜ (1 ≤ x) × (x ≤ 256000000) ⌝ }
+    ensures { λ r. ⌜ r ≡ firsts 564 (weight x) ⌝ }
+{
+    let mut w = [0u64; LEVELS];
+    w[mode_of(x) as usize] = GREATEST;
+    let right = rightward(x, w);
+    leftward(x, right)
+}
+
+// The weights right of m, in an array that has w(m) alone. Past 2m + 51 they are 0, as it is there.
+fn rightward(x: u64, w: [u64; LEVELS]) -> [u64; LEVELS]
+    requires { ⌜ (x ≤ 256000000) × Holds x (mode x) (mode x + 1) w ⌝ }
+    ensures { λ r. ⌜ Holds x (mode x) 564 r ⌝ }
+{
+    let m = mode_of(x) as usize;
+    let mut w = w;
+    let mut n = m;
+    while n < 2 * m + 51 {
+        w[n + 1] = step_right(w[n], x, n as u64);
+        n += 1;
+    }
+    w
+}
+
+// The weights left of m, in an array that has the others.
+fn leftward(x: u64, w: [u64; LEVELS]) -> [u64; LEVELS]
+    requires { ⌜ (x ≤ 256000000) × Holds x (mode x) 564 w ⌝ }
+    ensures { λ r. ⌜ r ≡ firsts 564 (weight x) ⌝ }
+{
+    let mut w = w;
+    let mut n = mode_of(x) as usize;
+    while n > 0 {
+        w[n - 1] = step_left(w[n], x, n as u64);
+        n -= 1;
+    }
+    w
+}
+
+// m: q rounded down.
+fn mode_of(x: u64) -> u64
+    ensures { λ r. ⌜ r ≡ mode x ⌝ }
+{
+    x / MILLION
+}
+
+// w(n + 1), given w(n), for n from m on.
+fn step_right(w: u64, x: u64, n: u64) -> u64
+    requires { ⌜ (w ≡ weight x n) × (mode x ≤ n) × (n < 563) ⌝ }
+    ensures { λ r. ⌜ r ≡ weight x (n + 1) ⌝ }
+{
+    muldiv::scaled(w, x, (n + 1) * MILLION)
+}
+
+// w(n - 1), given w(n), for n up to m.
+fn step_left(w: u64, x: u64, n: u64) -> u64
+    requires { ⌜ (w ≡ weight x n) × (1 ≤ n) × (n ≤ mode x) × (x ≤ 256000000) ⌝ }
+    ensures { λ r. ⌜ r ≡ weight x (n - 1) ⌝ }
+{
+    muldiv::scaled(w, n * MILLION, x)
+}
+
+// Where the sum over n is cut off: the level N, and S(N).
+pub struct Truncation {
+    pub level: u64,
+    pub sum: u64,
+}
+
+// The least n that passes, and S(n). 2m + 51 passes, so the search ends there at the latest.
+pub fn truncate(weights: &[u64; LEVELS], x: u64, tolerance: u64) -> Truncation
+    requires { ⌜ (now weights ≡ firsts 564 (weight x)) × (1 ≤ x) × (x ≤ 256000000) × (1 ≤ tolerance) × (tolerance ≤ 100000000) ⌝ }
+    ensures { λ r. ⌜ Truncated x tolerance (r .level) (r .sum) ⌝ }
+{
+    let mut n: u64 = 0;
+    let mut sum = weights[0];
+    loop {
+        let next = n + 1;
+        if passes(weights[n as usize], sum, x, n, tolerance) {
+            return Truncation { level: n, sum };
+        }
+        sum += weights[next as usize];
+        n = next;
+    }
+}
+
+// Whether n passes, given w(n) and S(n): n jumps are at least q, and t, the bound on the weights
+// past n, is at most S(n) times the tolerance. Below q the divisor of t could be 0.
+fn passes(w: u64, sum: u64, x: u64, n: u64, tolerance: u64) -> bool
+    requires { ⌜ (w ≡ weight x n) × (sum ≡ weightSum x n) × (n ≤ 563) × (x ≤ 256000000) × (tolerance ≤ 100000000) ⌝ }
+    ensures { λ r. ⌜ r ≡ passes? x tolerance n ⌝ }
+{
+    let m = mode_of(x);
+    let reached = n * MILLION;
+    if reached < x {
+        return false;
+    }
+    let t = 1 + muldiv::scaled(w + n - m, x, reached + MILLION - x);
+    t <= muldiv::scaled(sum, tolerance, BILLION)
+}

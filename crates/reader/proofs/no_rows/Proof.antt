@@ -1,0 +1,12 @@
+-- `reader::no_rows` meets its contract. Assumes nothing.
+use mathlib.Core.Path.{refl}
+use Rattle.reader.specs.Filling.{zeros}
+use Rattle.reader.proofs.no_rows.Statement.{statement}
+use Rattle.reader.proofs.no_rows.Tie as tie
+
+returns : tie.Need-returns
+unfolding zeros
+returns c = refl
+
+pub no-rows-spec : {M : Type 1} → statement M
+no-rows-spec = tie.close (tie.spec returns)

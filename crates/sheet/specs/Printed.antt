@@ -1,0 +1,48 @@
+-- What `write_sheet` asks and leaves, and two laws for its callers. Assumes nothing.
+use mathlib.Core.Path.{_≡_, refl}
+use mathlib.Core.List.{List, [], _∷_, _++_}
+use Prim.Native.Nat.{ℕ, _+_, _*_, _≤_}
+use lib.ListN.{length, take, drop}
+use lib.Seq.{take-append-seam}
+use Rattle.definitions.specs.declared.Outcome.{Outcome}
+use Rattle.definitions.specs.declared.Outcome.the-variants as ended
+use Rattle.definitions.specs.Sheet.{decimal, figure, sheetOf, written}
+
+-- one line's text, of a state, an r and a moment's ticks
+abbrev pub line : ℕ → ℕ → ℕ → List ℕ
+line state r ticks = decimal state ++ 32 ∷ decimal r ++ 32 ∷ figure ticks ++ 10 ∷ []
+
+-- what the writer of the lines asks: at most 20 bytes a line, two digits for a state and one for r
+pub record Lines (at R : ℕ) (cells : List ℕ) (count space : ℕ) : Type 0 where
+  pub room : at + count * 20 ≤ space
+  pub highest : R ≤ 8
+  pub states : count ≤ 64 * R
+  pub filled : count ≤ length cells
+
+-- an accepted file's states, highest moment and cells
+pub record Shape (M R : ℕ) (cells : List ℕ) : Type 0 where
+  pub states : M ≤ 64
+  pub highest : R ≤ 8
+  pub filled : M * R ≤ length cells
+
+-- a level is printed with the moments of its cells, and a refusal asks nothing
+abbrev pub Printable : Outcome → ℕ → ℕ → List ℕ → Type 0
+Printable (ended.Level N) M R cells = Shape M R cells
+Printable (ended.Refused k) M R cells = Unit
+
+-- the sheet stands at the buffer's start, the later bytes are as they were, and count is the sheet's length
+pub record Printed (o : Outcome) (M R : ℕ) (cells old new : List ℕ) (count : ℕ) : Type 0 where
+  pub counted : count ≡ length (sheetOf o M R cells)
+  pub fits : count ≤ 16384
+  pub inside : count ≤ length new
+  pub bytes : new ≡ written (sheetOf o M R cells) old
+
+-- a caller who knows the shape where the outcome is a level may print
+pub printable : (o : Outcome) (M R : ℕ) (cells : List ℕ) → ((N : ℕ) → o ≡ ended.Level N → Shape M R cells) → Printable o M R cells
+printable (ended.Level N) M R cells shape = shape N refl
+printable (ended.Refused k) M R cells shape = tt
+
+-- the first count bytes are the sheet
+pub first-bytes : {o : Outcome} {M R count : ℕ} {cells old new : List ℕ} → Printed o M R cells old new count → take count new ≡ sheetOf o M R cells
+unfolding written
+first-bytes p = rw (p .bytes, p .counted, take-append-seam)

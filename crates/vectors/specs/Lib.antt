@@ -1,0 +1,7 @@
+-- What the reward vectors' contracts cite, and the laws of it that callers use.
+pub mod Ready
+pub mod ReadyLaws
+pub mod Table
+pub mod StepLaws
+pub mod TableLaws
+pub mod ModelLaws
