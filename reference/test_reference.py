@@ -275,6 +275,29 @@ class ExactAverage(unittest.TestCase):
         self.check_demand_3("q 256", file)
 
 
+class EditedDemand3(unittest.TestCase):
+    """Demand 3 with a part taken away is false, and B shows it: the proof cannot have been too easy."""
+
+    def setUp(self):
+        self.model = calculator.read_model(B)
+        self.printed = Fraction(718749999999, ONE)     # state 1, r = 1, N = 3
+        self.ticks = Fraction(3 * 3 + 2 * 1 + 3, ONE)
+
+    def test_no_ticks_at_all(self):
+        self.assertGreater(abs(self.printed - calculator.average(self.model, 3, 1, 1)), 0)
+
+    def test_no_tolerance_past_the_level(self):
+        self.assertGreater(abs(self.printed - calculator.average(self.model, 10, 1, 1)), self.ticks)
+
+    def test_weights_one_index_late(self):
+        u = [calculator.exact_first(self.model)]
+        for n in range(1, 4):
+            u.append(calculator.exact_next(self.model, n, u[-1]))
+        weight = [Fraction(1, math.factorial(n + 1)) for n in range(4)]    # q is 1
+        late = sum(w * v[1][0] for w, v in zip(weight, u)) / sum(weight)
+        self.assertGreater(abs(self.printed - late), self.ticks + Fraction(1, 100))
+
+
 class Printing(unittest.TestCase):
 
     def test_moments_are_in_range_and_in_order(self):

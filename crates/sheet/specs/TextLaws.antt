@@ -58,7 +58,7 @@ places-most x p (suc k) pos h =
       | no n ↦ omega (arith, places-limit x (suc k))
     ]
 
--- the same, for a count p of digits
+-- `places-are` for a count p of digits, as the code finds it
 pub places-found : (x p : ℕ) → 0 < p → p ≤ 20 → x < 10 ^ p → (1 < p → 10 ^ (p - 1) ≤ x) → places x 19 ≡ p
 places-found x zero pos most high low = absurd (omega arith)
 places-found x (suc q) pos most high low =
