@@ -1,5 +1,6 @@
 #!/usr/bin/env python3
 """Write the comparison kit, conformance/files: python3 conformance/make.py
+With --check, compare it with the stored one instead.
 
 Models come from fixed seeds and fields, sheets from reference/calculator.py, so that every
 run writes the same files.
@@ -14,8 +15,8 @@ HERE = os.path.dirname(os.path.abspath(__file__))
 FILES = os.path.join(HERE, "files")
 sys.path.insert(0, os.path.join(os.path.dirname(HERE), "reference"))
 
-import calculator  # noqa: E402
 import models  # noqa: E402
+import stored  # noqa: E402
 
 A = bytes.fromhex("000F010101000027100000000100000005")
 B = bytes.fromhex("001B01020205F5E100000000010000000100000000000F4240000F4240")
@@ -130,27 +131,5 @@ def all_files():
         yield from group()
 
 
-def main():
-    if len(sys.argv) > 1:
-        print("make.py: takes no arguments", file=sys.stderr)
-        return 2
-    os.makedirs(FILES, exist_ok=True)
-    written, size = set(), 0
-    for name, file in all_files():
-        for ending, content in ((".model", file), (".sheet", calculator.sheet(file))):
-            if name + ending in written:
-                print(f"make.py: two files are named {name}", file=sys.stderr)
-                return 2
-            with open(os.path.join(FILES, name + ending), "wb") as target:
-                target.write(content)
-            written.add(name + ending)
-            size += len(content)
-    for name in sorted(set(os.listdir(FILES)) - written):      # left from an earlier kit
-        if name.endswith((".model", ".sheet")):
-            os.remove(os.path.join(FILES, name))
-    print(f"wrote {len(written) // 2} models with their sheets, {size} bytes")
-    return 0
-
-
 if __name__ == "__main__":
-    sys.exit(main())
+    sys.exit(stored.main(sys.argv[1:], FILES, all_files(), sys.stderr, sys.stdout))

@@ -1,5 +1,6 @@
 #!/usr/bin/env python3
 """Write the example models and their sheets from their fields: python3 examples/make.py
+With --check, compare them with the stored ones instead.
 
 The bytes are put together by build() of reference/models.py, the sheets come from
 reference/calculator.py. Rates are in millionths per hour, the tolerance is in billionths.
@@ -12,8 +13,8 @@ sys.dont_write_bytecode = True
 HERE = os.path.dirname(os.path.abspath(__file__))
 sys.path.insert(0, os.path.join(os.path.dirname(HERE), "reference"))
 
-import calculator  # noqa: E402
 import models  # noqa: E402
+import stored  # noqa: E402
 
 
 def without_diagonal(rates):
@@ -75,17 +76,5 @@ EXAMPLES = {
 }
 
 
-def main():
-    if len(sys.argv) > 1:
-        print("make.py: takes no arguments", file=sys.stderr)
-        return 2
-    for name, file in EXAMPLES.items():
-        for ending, content in ((".model", file), (".sheet", calculator.sheet(file))):
-            with open(os.path.join(HERE, name + ending), "wb") as target:
-                target.write(content)
-    print(f"wrote {len(EXAMPLES)} models with their sheets")
-    return 0
-
-
 if __name__ == "__main__":
-    sys.exit(main())
+    sys.exit(stored.main(sys.argv[1:], HERE, EXAMPLES.items(), sys.stderr, sys.stdout))
