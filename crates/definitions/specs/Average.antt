@@ -1,6 +1,6 @@
 -- "Exact average": fractions from the file alone, nothing rounded. E and F have to be above 0, as they are for an accepted file.
 use Prim.Native.Nat.{ℕ, zero, suc, _+_, _*_, _<_}
-use native.Mathlib.Nat.{mul-pos, zero-lt-suc, zero-add, le-max-left}
+use native.Mathlib.Nat.{mul-pos, zero-lt-suc}
 use native.Mathlib.Omega.{arith}
 use lib.Dec.{lit<}
 use Rattle.definitions.specs.Chain.{Model, Chain, uniformRate, maxReward, chainOf, jumpMillionths}

@@ -1,7 +1,7 @@
 -- "Chain": the model that a file states, and its uniformized chain. What follows the bytes speaks of a Model and not of bytes.
 use Prim.Native.Nat.{ℕ, _+_, _*_, _-_, _/_, _%_, max}
 use mathlib.Core.List.{List}
-use mathlib.Core.Bool.{Bool, true, false, _&&_}
+use mathlib.Core.Bool.{_&&_}
 use lib.ListN.{getD}
 use lib.Dec.{eqb, ltb}
 use Rattle.definitions.specs.Sums.{sum, largest, firsts, pick}

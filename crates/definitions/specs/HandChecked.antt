@@ -1,15 +1,13 @@
 -- "Hand-checked files": the ten starred entries, as one list and one statement over it. Beside them, and apart from the ten,
 -- the average of B and the places "Where hand solutions go wrong".
 use Prim.Native.Nat.{ℕ, _<_}
-use mathlib.Core.List.{List, [], _∷_, _++_}
+use mathlib.Core.List.{List, [], _∷_}
 use mathlib.Core.Logic.{_≢_}
 use mathlib.Core.Path.{_≡_, refl}
 use native.Mathlib.Omega.{arith}
-use lib.ListN.{length, take, drop, getD, set, replicate}
-use lib.Dec.{lit<, ltb, leb, eqb}
-use Rattle.definitions.specs.declared.Judgement.{Judgement}
+use lib.ListN.{length, set, replicate}
+use lib.Dec.{lit<}
 use Rattle.definitions.specs.declared.Judgement.the-variants as judged
-use Rattle.definitions.specs.declared.Outcome.{Outcome}
 use Rattle.definitions.specs.declared.Outcome.the-variants as ended
 use Rattle.definitions.specs.Sums.{sum, largest, anyAbove, firsts, over, pick}
 use Rattle.definitions.specs.Bytes.{big}
@@ -21,7 +19,7 @@ use Rattle.definitions.specs.Level.{tailBound, allowance, passes?, first
 use Rattle.definitions.specs.Moment.{term, weighted, lastQuotient, weightedMean, moment, cell, modelLevel, answered, outcome, cellsAfter}
 use Rattle.definitions.specs.Fraction.{Same, ratio, total, power}
 use Rattle.definitions.specs.Average.{exactMean, exactShare, exactMix, exactFirst, exactNext, exactU, factorial, exactWeight, averageOf, average}
-use Rattle.definitions.specs.Sheet.{digit, digits, places, decimal, figure, momentLine, momentLines, levelLine, sheetOf, sheet}
+use Rattle.definitions.specs.Sheet.{digit, digits, places, decimal, figure, momentLine, momentLines, levelLine, sheetOf, sheet, printedSheet}
 
 -- file A
 abbrev pub fileA : List ℕ
@@ -110,6 +108,6 @@ sheetB =
     ∷ 50 ∷ 32 ∷ 50 ∷ 32 ∷ 48 ∷ 46 ∷ 49 ∷ 55 ∷ 52 ∷ 57 ∷ 57 ∷ 57 ∷ 57 ∷ 57 ∷ 57 ∷ 57 ∷ 57 ∷ 57 ∷ 10
     ∷ []
 
-pub sheet-of-B : sheet fileB ≡ sheetB
-unfolding sum largest anyAbove firsts over big jumpRate rowSum uniformRate c maxReward jumpMillionths rows firstHeld judgement rowMean rewardShare mix nextEntry firstVectors nextVectors U mode rightward leftward weight weightSum tailBound allowance passes? firstFrom level term weighted lastQuotient weightedMean moment cell modelLevel answered outcome cellsAfter digit digits places decimal figure momentLine momentLines levelLine sheetOf sheet
+pub sheet-of-B : printedSheet fileB ≡ sheetB
+unfolding sum largest anyAbove firsts over big jumpRate rowSum uniformRate c maxReward jumpMillionths rows firstHeld judgement rowMean rewardShare mix nextEntry firstVectors nextVectors U mode rightward leftward weight weightSum tailBound allowance passes? firstFrom level term weighted lastQuotient weightedMean moment cell modelLevel answered outcome cellsAfter digit digits places decimal figure momentLine momentLines levelLine sheetOf sheet printedSheet
 sheet-of-B = refl

@@ -1,37 +1,21 @@
 -- The table of refusals row by row, and what acceptance tells of a file.
-use Prim.Native.Nat.{ℕ, zero, suc, _+_, _*_, _-_, _≤_, _<_}
+use Prim.Native.Nat.{ℕ, _+_, _*_, _-_, _≤_, _<_}
 use native.Mathlib.Omega.{arith}
-use native.Mathlib.Nat.{mul-pos, mul-le-mul}
-use mathlib.Core.Path.{_≡_, refl, sym, _∙_, ap}
+use native.Mathlib.Nat.{mul-pos}
+use mathlib.Core.Path.{_≡_, refl, sym, _∙_}
 use mathlib.Core.Bool.{Bool, true, false, not, _||_}
 use mathlib.Core.List.{List, [], _∷_}
 use lib.ListN.{length}
 use lib.Dec.{ltb, eqb}
-use borrow.Author.Tests.{ltb-true, ltb-false, eqb-true, eqb-false, not-false, lt-ltb, le-ltb, eq-eqb, ne-eqb}
-use Rattle.definitions.specs.declared.Judgement.{Judgement}
+use borrow.Author.Tests.{ltb-true, ltb-false, eqb-true, eqb-false, not-false}
 use Rattle.definitions.specs.declared.Judgement.the-variants as judged
 use Rattle.definitions.specs.Sums.{largest, anyAbove}
 use Rattle.definitions.specs.File.{lengthField, version, stateCount, highestMoment, toleranceField, timeField, rewardField}
 use Rattle.definitions.specs.Chain.{Model, modelOf, rowSum, uniformRate, maxReward, jumpMillionths, chainOf}
 use Rattle.definitions.specs.Rules.{rows, firstHeld, judgement}
-use Rattle.laws.specs.SumLaws.{any-largest, le-largest, largest-le}
+use Rattle.laws.specs.SumLaws.{any-largest}
 use Rattle.laws.specs.ChainLaws.{rate-pos, row-sums-to-rate, reward-le-largest}
 use Rattle.laws.specs.VectorLaws.{Stochastic}
-
--- a row that holds is the answer
-pub stop : (k : ℕ) (b : Bool) (later : List (ℕ × Bool)) → b ≡ true → firstHeld ((k, b) ∷ later) ≡ judged.Refused k
-unfolding firstHeld
-stop k b later h = rw h
-
--- a row that does not hold leaves the answer to the later ones
-pub pass : (k : ℕ) (b : Bool) (later : List (ℕ × Bool)) → b ≡ false → firstHeld ((k, b) ∷ later) ≡ firstHeld later
-unfolding firstHeld
-pass k b later h = rw h
-
--- where no row holds the file is accepted
-pub none-held : firstHeld [] ≡ judged.Accepted
-unfolding firstHeld
-none-held = refl
 
 -- no row of a list holds
 abbrev pub NoneHold : List (ℕ × Bool) → Type 0

@@ -2,18 +2,17 @@
 -- stays near its exact values u(n), and any last quotient P that is within one tick.
 use Prim.Native.Nat.{ℕ, zero, suc, _+_, _*_, _-_, _/_, _≤_, _<_}
 use native.Mathlib.Omega.{arith}
-use native.Mathlib.Nat.{mul-le-mul, mul-le-mul-left, mul-le-mul-right, le-of-mul-le-mul-right, le-of-mul-le-mul-left, le-of-lt, le-trans, le-refl, mul-pos, sub-self}
+use native.Mathlib.Nat.{mul-le-mul-left, mul-le-mul-right, le-of-mul-le-mul-right, le-of-mul-le-mul-left, le-refl, mul-pos, sub-self}
 use native.Mathlib.Decide.{decLe}
-use mathlib.Core.Path.{_≡_, refl, sym, _∙_, ap}
-use mathlib.Core.Bool.{Bool, true, false}
+use mathlib.Core.Path.{_≡_, _∙_, ap}
 use lib.Dec.{leb}
 use borrow.Author.Tests.{le-leb, lt-leb}
 use Rattle.definitions.specs.Sums.{sum, pick}
 use Rattle.definitions.specs.Vectors.{ONE}
-use Rattle.definitions.specs.Weights.{GREATEST, MILLION, mode, weight, weightSum}
+use Rattle.definitions.specs.Weights.{GREATEST, mode, weight, weightSum}
 use Rattle.definitions.specs.Level.{BILLION, Passes}
 use Rattle.definitions.specs.Moment.{term, weighted}
-use Rattle.definitions.specs.Fraction.{Fraction, AtMost, ratio, plus, times, quotient, total}
+use Rattle.definitions.specs.Fraction.{Fraction, AtMost, ratio, plus, times, total}
 use Rattle.definitions.specs.Average.{exactWeight, exactWeights-pos, averageOf}
 use Rattle.definitions.specs.Promise.{Within, ticks, one-pos, billion-pos, roundingTicks}
 use Rattle.laws.specs.Rounding.{quotient-low, quotient-high}

@@ -1,18 +1,16 @@
 -- The uniformized chain: each row of c sums to E, f ≤ F, and the arrays that hold a chain.
-use Prim.Native.Nat.{ℕ, zero, suc, _+_, _*_, _-_, _/_, _%_, _≤_, _<_, max}
+use Prim.Native.Nat.{ℕ, zero, suc, _+_, _*_, _-_, _/_, _%_, _≤_, _<_}
 use native.Mathlib.Omega.{arith}
-use native.Mathlib.Nat.{mul-add-div-right, mul-add-mod-self-right, div-eq-of-lt, mod-eq-of-lt}
 use native.Mathlib.Decide.{ℕ-discrete}
-use mathlib.Core.Path.{_≡_, refl, sym, _∙_, ap}
-use mathlib.Core.Bool.{Bool, true, false, _&&_}
-use mathlib.Core.List.{List}
-use lib.ListN.{length, getD}
+use mathlib.Core.Path.{_≡_, refl, _∙_}
+use mathlib.Core.Bool.{_&&_}
+use lib.ListN.{getD}
 use lib.Dec.{eqb, ltb}
-use borrow.Author.Tests.{eq-eqb, ne-eqb, lt-ltb, le-ltb}
-use Rattle.definitions.specs.Sums.{sum, largest, firsts, pick}
-use Rattle.definitions.specs.Chain.{Model, jumpRate, rowSum, uniformRate, c, maxReward, jumpMillionths, Chain, chainOf, padded, flat, arrays}
+use borrow.Author.Tests.{eq-eqb, ne-eqb, lt-ltb}
+use Rattle.definitions.specs.Sums.{sum, pick}
+use Rattle.definitions.specs.Chain.{Model, jumpRate, rowSum, uniformRate, c, maxReward, Chain, padded, flat, arrays}
 use Rattle.laws.specs.SumLaws.{sum-same, le-largest}
-use Rattle.laws.specs.ListLaws.{getD-firsts, length-firsts}
+use Rattle.laws.specs.ListLaws.{getD-firsts}
 
 -- what changes at the diagonal alone changes the sum by that much
 pub sum-diagonal : (n i d : ℕ) (g : ℕ → ℕ) → i < n → sum n (λ j. pick (eqb j i) d (g j)) ≡ sum n (λ j. pick (eqb j i) 0 (g j)) + d
@@ -47,18 +45,10 @@ pub reward-le-largest : (m : Model) (i : ℕ) → i < m .states → m .reward i 
 unfolding maxReward
 reward-le-largest m i l = le-largest (m .states) (m .reward) i l
 
-pub length-padded : (M : ℕ) (v : ℕ → ℕ) → length (padded M v) ≡ 64
-unfolding padded
-length-padded M v = length-firsts 64 (λ i. pick (ltb i M) (v i) 0)
-
 -- a padded vector at a state, and past the states
 pub getD-padded : (M : ℕ) (v : ℕ → ℕ) (i : ℕ) → M ≤ 64 → i < M → getD (padded M v) i 0 ≡ v i
 unfolding padded
 getD-padded M v i h l = getD-firsts 64 (λ j. pick (ltb j M) (v j) 0) i (omega arith) ∙ rw (lt-ltb i M l)
-
-pub length-flat : (ch : Chain) → length (flat ch) ≡ 4096
-unfolding flat
-length-flat ch = length-firsts 4096 (λ k. pick (ltb (k / 64) (ch .states) && ltb (k % 64) (ch .states)) (ch .entry (k / 64) (k % 64)) 0)
 
 -- c(i,j) in its place of the array
 pub getD-flat : (ch : Chain) (i j : ℕ) → ch .states ≤ 64 → i < ch .states → j < ch .states → getD (flat ch) (i * 64 + j) 0 ≡ ch .entry i j

@@ -1,22 +1,19 @@
 -- Demand 3, of the definitions: for every accepted file the moments at the level satisfy Promise.
-use Prim.Native.Nat.{ℕ, zero, suc, _+_, _*_, _≤_, _<_}
+use Prim.Native.Nat.{ℕ, _<_}
 use native.Mathlib.Omega.{arith}
-use mathlib.Core.Path.{_≡_, refl, sym, _∙_, ap}
+use mathlib.Core.Path.{_≡_, refl}
 use mathlib.Core.List.{List}
-use lib.ListN.{length, getD}
+use lib.ListN.{length}
 use Rattle.definitions.specs.declared.Judgement.{Judgement}
 use Rattle.definitions.specs.declared.Judgement.the-variants as judged
-use Rattle.definitions.specs.declared.Outcome.{Outcome}
 use Rattle.definitions.specs.declared.Outcome.the-variants as ended
-use Rattle.definitions.specs.Chain.{Model, modelOf, maxReward, jumpMillionths, chainOf}
+use Rattle.definitions.specs.Chain.{Model, modelOf, jumpMillionths, chainOf}
 use Rattle.definitions.specs.Rules.{judgement}
-use Rattle.definitions.specs.Vectors.{ONE, U}
-use Rattle.definitions.specs.Weights.{mode, weightSum}
-use Rattle.definitions.specs.Level.{level}
-use Rattle.definitions.specs.Moment.{weighted, weightedMean, moment, modelLevel, answered, outcome, cellsAfter}
-use Rattle.definitions.specs.Fraction.{Fraction, whole}
+use Rattle.definitions.specs.Vectors.{U}
+use Rattle.definitions.specs.Weights.{weightSum}
+use Rattle.definitions.specs.Moment.{weighted, moment, modelLevel, answered, outcome, cellsAfter}
 use Rattle.definitions.specs.Average.{proper, exactU, average}
-use Rattle.definitions.specs.Promise.{ticks, Close, Promise, Promised, printed}
+use Rattle.definitions.specs.Promise.{ticks, Close, Promise, Promised}
 use Rattle.laws.specs.LevelLaws.{level-is, level-max, level-mode}
 use Rattle.laws.specs.VectorLaws.{U-bound}
 use Rattle.laws.specs.VectorError.{vector-near}

@@ -1,9 +1,9 @@
 -- A fraction held between whole numbers over a common divisor d: a/d ≤ x, and x ≤ a/d.
-use Prim.Native.Nat.{ℕ, zero, suc, _+_, _*_, _/_, _≤_, _<_}
+use Prim.Native.Nat.{ℕ, zero, suc, _+_, _*_, _≤_, _<_}
 use native.Mathlib.Omega.{arith}
-use native.Mathlib.Nat.{mul-le-mul, mul-le-mul-left, mul-le-mul-right, le-of-mul-le-mul-right, mul-pos}
+use native.Mathlib.Nat.{mul-le-mul, mul-le-mul-left, mul-le-mul-right, le-of-mul-le-mul-right}
 use Rattle.definitions.specs.Sums.{sum}
-use Rattle.definitions.specs.Fraction.{Fraction, AtMost, ratio, whole, plus, times, overWhole, quotient, total}
+use Rattle.definitions.specs.Fraction.{Fraction, whole, plus, times, overWhole, quotient, total}
 
 -- a/d is at most x
 pub record Low (a d : ℕ) (x : Fraction) : Type 0 where

@@ -1,16 +1,15 @@
 -- The truncation level: the computed one is the least n that passes both tests, and it is at most 2m + 51.
-use Prim.Native.Nat.{ℕ, zero, suc, _+_, _*_, _-_, _/_, _≤_, _<_}
+use Prim.Native.Nat.{ℕ, zero, suc, _+_, _*_, _-_, _/_, _≤_}
 use native.Mathlib.Omega.{arith}
-use native.Mathlib.Nat.{mul-le-mul, mul-le-mul-left, mul-le-mul-right, le-trans, le-refl, add-suc, suc-add, add-zero}
-use native.Mathlib.Decide.{ℕ-discrete}
-use mathlib.Core.Path.{_≡_, refl, sym, _∙_, ap}
+use native.Mathlib.Nat.{mul-le-mul, mul-le-mul-left, le-refl}
+use mathlib.Core.Path.{_≡_, refl}
 use mathlib.Core.Bool.{Bool, true, false, _&&_}
 use lib.Dec.{leb}
-use borrow.Author.Tests.{leb-true, leb-false, le-leb, lt-leb}
-use Rattle.definitions.specs.Weights.{GREATEST, MILLION, mode, weight, weightSum}
+use borrow.Author.Tests.{leb-true, le-leb}
+use Rattle.definitions.specs.Weights.{MILLION, mode, weight, weightSum}
 use Rattle.definitions.specs.Level.{BILLION, tailBound, allowance, Passes, IsLevel, passes?, firstFrom, level}
-use Rattle.laws.specs.Rounding.{quotient-low, quotient-at-most, quotient-at-least}
-use Rattle.laws.specs.WeightLaws.{mode-low, mode-high, weight-max, weight-gone, weightSum-min, weightSum-max}
+use Rattle.laws.specs.Rounding.{quotient-at-most, quotient-at-least}
+use Rattle.laws.specs.WeightLaws.{mode-low, mode-high, weight-gone, weightSum-min}
 
 both : (a b : Bool) → (a && b) ≡ true → (a ≡ true) × (b ≡ true)
 both true true h = (refl, refl)

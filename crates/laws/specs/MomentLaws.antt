@@ -1,18 +1,17 @@
 -- The moments: their cells, and the last quotient.
-use Prim.Native.Nat.{ℕ, zero, suc, _+_, _*_, _-_, _/_, _%_, _≤_, _<_}
+use Prim.Native.Nat.{ℕ, suc, _+_, _*_, _-_, _/_, _%_, _≤_, _<_}
 use native.Mathlib.Omega.{arith}
-use native.Mathlib.Nat.{mul-add-div-right, mul-add-mod-self-right, div-eq-of-lt, mod-eq-of-lt, mul-le-mul-left, mul-le-mul-right, mul-le-mul, le-trans}
+use native.Mathlib.Nat.{mul-add-div-right, mul-add-mod-self-right, div-eq-of-lt, mod-eq-of-lt, mul-le-mul-left, mul-le-mul-right}
 use mathlib.Core.Path.{_≡_, refl, sym, _∙_, ap, ap₂}
 use mathlib.Core.List.{List}
-use lib.ListN.{length, getD}
+use lib.ListN.{getD}
 use Rattle.definitions.specs.declared.Judgement.{Judgement}
 use Rattle.definitions.specs.declared.Judgement.the-variants as judged
-use Rattle.definitions.specs.declared.Outcome.{Outcome}
 use Rattle.definitions.specs.declared.Outcome.the-variants as ended
-use Rattle.definitions.specs.Sums.{sum, over}
+use Rattle.definitions.specs.Sums.{over}
 use Rattle.definitions.specs.Chain.{Model, modelOf}
 use Rattle.definitions.specs.Vectors.{ONE}
-use Rattle.definitions.specs.Weights.{GREATEST, mode, weight, weightSum}
+use Rattle.definitions.specs.Weights.{mode, weight, weightSum}
 use Rattle.definitions.specs.Moment.{term, weighted, lastQuotient, weightedMean, moment, cellOf, cell, modelLevel, answered, outcome}
 use Rattle.definitions.specs.Rules.{judgement}
 use Rattle.laws.specs.Rounding.{quotient-low, quotient-high, quotient-at-most}

@@ -1,16 +1,15 @@
 -- The exact weights past a level that passes, summed to any later L, stay within S(N)·ε/10^9.
 use Prim.Native.Nat.{ℕ, zero, suc, _+_, _*_, _-_, _/_, _≤_, _<_}
 use native.Mathlib.Omega.{arith}
-use native.Mathlib.Nat.{mul-le-mul, mul-le-mul-left, mul-le-mul-right, le-of-mul-le-mul-right, le-of-lt, le-trans, add-zero, add-suc}
-use native.Mathlib.Numerals.{add-one}
-use mathlib.Core.Path.{_≡_, refl, sym, _∙_, ap}
+use native.Mathlib.Nat.{mul-le-mul-left, mul-le-mul-right, le-of-mul-le-mul-right, le-of-lt, add-zero}
+use mathlib.Core.Path.{_≡_, ap}
 use Rattle.definitions.specs.Sums.{sum}
 use Rattle.definitions.specs.Weights.{GREATEST, MILLION, mode, weight, weightSum}
 use Rattle.definitions.specs.Level.{BILLION, tailBound, allowance, Passes}
 use Rattle.laws.specs.Rounding.{quotient-low, quotient-high}
 use Rattle.laws.specs.SumLaws.{sum-zero, sum-suc}
 use Rattle.laws.specs.WeightLaws.{mode-low}
-use Rattle.laws.specs.WeightError.{z, z-next, distance, Held, held}
+use Rattle.laws.specs.WeightError.{z, z-next, distance, held}
 
 -- z(N + 1) + … + z(N + k)
 abbrev pub tail : ℕ → ℕ → ℕ → ℕ → ℕ

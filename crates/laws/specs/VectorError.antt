@@ -1,16 +1,16 @@
 -- The vectors' error: U ≤ ONE·u ≤ U + 2(n + r) at every state, and u ≤ 1.
 use Prim.Native.Nat.{ℕ, zero, suc, _+_, _*_, _/_, _≤_, _<_}
 use native.Mathlib.Omega.{arith}
-use native.Mathlib.Nat.{mul-le-mul, mul-le-mul-left, mul-le-mul-right, mul-add}
-use mathlib.Core.Path.{_≡_, refl, sym, _∙_, ap}
+use native.Mathlib.Nat.{mul-le-mul-right, mul-add}
+use mathlib.Core.Path.{_≡_, _∙_, ap}
 use Rattle.definitions.specs.Sums.{sum}
 use Rattle.definitions.specs.Chain.{Chain}
 use Rattle.definitions.specs.Vectors.{ONE, rowMean, rewardShare, mix, nextEntry, firstVectors, nextVectors, U}
-use Rattle.definitions.specs.Fraction.{Fraction, whole, plus, times, overWhole, total}
+use Rattle.definitions.specs.Fraction.{Fraction, whole, plus, times, total}
 use Rattle.definitions.specs.Average.{Proper, sum-pos, exactMean, exactShare, exactMix, exactFirst, exactNext, exactU}
 use Rattle.laws.specs.Rounding.{quotient-low, quotient-high}
-use Rattle.laws.specs.SumLaws.{sum-same, sum-plus, sum-times, sum-mono}
-use Rattle.laws.specs.VectorLaws.{Stochastic, U-zero, U-first, U-next}
+use Rattle.laws.specs.SumLaws.{sum-same, sum-plus, sum-times}
+use Rattle.laws.specs.VectorLaws.{Stochastic}
 use Rattle.laws.specs.FractionLaws.{Low, High, high-more, plus-low, plus-high, whole-times-low, whole-times-high, over-low, over-high, total-low, total-high}
 
 -- x is at least v/d and at most (v + e)/d, and at most 1

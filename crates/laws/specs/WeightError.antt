@@ -2,17 +2,14 @@
 -- Then w(n)·z(m) ≤ 10^15·z(n) ≤ (w(n) + |n − m|)·z(m), and the exact weights past the level stay within the tolerance.
 use Prim.Native.Nat.{ℕ, zero, suc, _+_, _*_, _-_, _/_, _≤_, _<_}
 use native.Mathlib.Omega.{arith}
-use native.Mathlib.Nat.{mul-le-mul, mul-le-mul-left, mul-le-mul-right, le-of-mul-le-mul-right, le-of-mul-le-mul-left, mul-pos, le-refl, le-trans, add-suc, suc-add, add-zero, mul-assoc, mul-one, zero-lt-suc, le-of-lt, sub-zero}
+use native.Mathlib.Nat.{mul-le-mul-left, mul-le-mul-right, le-of-mul-le-mul-right, mul-pos, add-suc, add-zero, mul-assoc, le-of-lt, sub-zero}
 use native.Mathlib.Numerals.{add-one}
 use native.Mathlib.Decide.{decLe}
-use mathlib.Core.Path.{_≡_, refl, sym, _∙_, ap, ap₂}
-use Rattle.definitions.specs.Sums.{sum}
-use Rattle.definitions.specs.Weights.{GREATEST, MILLION, mode, weight, weightSum}
-use Rattle.definitions.specs.Level.{BILLION, tailBound, allowance, Passes}
-use Rattle.definitions.specs.Fraction.{Fraction, ratio, power, overWhole}
+use mathlib.Core.Path.{_≡_, sym, _∙_, ap}
+use Rattle.definitions.specs.Weights.{GREATEST, MILLION, mode, weight}
+use Rattle.definitions.specs.Fraction.{ratio, power}
 use Rattle.definitions.specs.Average.{factorial, exactWeight, million-pos}
 use Rattle.laws.specs.Rounding.{quotient-low, quotient-high}
-use Rattle.laws.specs.SumLaws.{sum-suc}
 use Rattle.laws.specs.WeightLaws.{mode-low, mode-high, weight-mode, weight-right, weight-left}
 use Rattle.laws.specs.FractionLaws.{Low, High}
 

@@ -1,14 +1,14 @@
 -- The Poisson weights: the paper's steps away from m, their range, and where they are 0.
 use Prim.Native.Nat.{ℕ, zero, suc, _+_, _*_, _-_, _/_, _^_, _≤_, _<_}
 use native.Mathlib.Omega.{arith}
-use native.Mathlib.Nat.{le-of-mul-le-mul-right, mul-le-mul, mul-le-mul-left, mul-le-mul-right, le-trans, le-refl, pow-suc, le-dest, sub-self, suc-sub-suc, sub-zero, add-zero, add-suc}
+use native.Mathlib.Nat.{le-of-mul-le-mul-right, mul-le-mul-left, mul-le-mul-right, le-refl, pow-suc, sub-self, add-zero, add-suc}
 use native.Mathlib.Numerals.{add-one}
 use native.Mathlib.Decide.{decLt, decLe}
-use mathlib.Core.Path.{_≡_, refl, sym, _∙_, ap, ap₂}
+use mathlib.Core.Path.{_≡_, sym, _∙_, ap, ap₂}
 use borrow.Author.Tests.{lt-ltb, le-ltb}
-use Rattle.definitions.specs.Sums.{sum, pick}
+use Rattle.definitions.specs.Sums.{sum}
 use Rattle.definitions.specs.Weights.{GREATEST, MILLION, mode, rightward, leftward, weight, weightSum}
-use Rattle.laws.specs.Rounding.{quotient-low, quotient-high, quotient-at-most, quotient-mono}
+use Rattle.laws.specs.Rounding.{quotient-low, quotient-high, quotient-at-most}
 use Rattle.laws.specs.SumLaws.{sum-mono, sum-constant, term-le-sum, sum-suc}
 
 module _ (X : ℕ) where

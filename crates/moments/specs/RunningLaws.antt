@@ -1,16 +1,16 @@
 -- The running sums: none at first, one n more at a time, and their range.
-use mathlib.Core.List.{List, []}
-use mathlib.Core.Path.{_≡_, refl, sym, _∙_, ap, ap₂}
-use Prim.Native.Nat.{ℕ, zero, suc, _+_, _*_, _/_, _%_, _≤_, _<_}
+use mathlib.Core.List.{List}
+use mathlib.Core.Path.{_≡_, sym, _∙_, ap, ap₂}
+use Prim.Native.Nat.{ℕ, _+_, _*_, _/_, _%_, _≤_, _<_}
 use native.Mathlib.Decide.{decLt}
-use native.Mathlib.Nat.{mod-lt, div-lt-iff-lt-mul, mul-le-mul, mul-le-mul-left, mul-le-mul-right, le-trans}
+use native.Mathlib.Nat.{mod-lt, div-lt-iff-lt-mul, mul-le-mul, mul-le-mul-left, le-trans}
 use native.Mathlib.Numerals.{add-one}
 use native.Mathlib.Omega.{arith}
 use lib.Dec.{ltb}
-use lib.ListN.{length, getD, replicate, length-replicate, getD-replicate}
+use lib.ListN.{length, getD, replicate, getD-replicate}
 use lib.Seq.{ext-getD}
 use borrow.Author.Tests.{lt-ltb, le-ltb}
-use Rattle.definitions.specs.Sums.{sum, firsts, over, pick}
+use Rattle.definitions.specs.Sums.{over, pick}
 use Rattle.definitions.specs.Chain.{Chain, arrays}
 use Rattle.definitions.specs.Vectors.{ONE, U}
 use Rattle.definitions.specs.Weights.{GREATEST}
@@ -19,7 +19,6 @@ use Rattle.laws.specs.Rounding.{quotient-at-most}
 use Rattle.laws.specs.SumLaws.{sum-zero, sum-suc, sum-mono, sum-constant}
 use Rattle.laws.specs.ListLaws.{length-firsts, getD-firsts, length-over, getD-over, getD-over-past}
 use Rattle.laws.specs.VectorLaws.{Stochastic, U-bound}
-use Rattle.vectors.specs.Ready.{Ready}
 use Rattle.vectors.specs.Table.{tableOf}
 use Rattle.vectors.specs.TableLaws.{table-entry}
 use Rattle.moments.specs.Running.{inTable, partSum, partSums, Addable, Summable}

@@ -1,7 +1,7 @@
 -- The moments of a chain that stands in arrays, for one expected jump count and one tolerance.
 use mathlib.Core.List.{List}
 use mathlib.Core.Path.{_≡_}
-use Prim.Native.Nat.{ℕ, _+_, _*_, _/_, _%_, _≤_, _<_}
+use Prim.Native.Nat.{ℕ, _+_, _/_, _%_, _≤_}
 use Rattle.definitions.specs.Chain.{Model, Chain, chainOf, flat, padded, uniformRate, maxReward, jumpMillionths}
 use Rattle.definitions.specs.Vectors.{U}
 use Rattle.definitions.specs.Moment.{weightedMean}

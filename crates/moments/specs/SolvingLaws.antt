@@ -1,29 +1,28 @@
 -- The sums and their quotients are the weighted means, and those of a model's arrays are its moments.
 use mathlib.Core.List.{List}
-use mathlib.Core.Path.{_≡_, refl, sym, _∙_, ap, ap₂}
-use Prim.Native.Nat.{ℕ, zero, suc, _+_, _*_, _/_, _%_, _≤_, _<_, _^_}
-use native.Mathlib.Nat.{mul-le-mul}
+use mathlib.Core.Path.{_≡_, _∙_, ap, ap₂}
+use Prim.Native.Nat.{ℕ, suc, _+_, _*_, _/_, _%_, _≤_, _<_}
 use native.Mathlib.Numerals.{add-one}
 use native.Mathlib.Omega.{arith}
-use lib.ListN.{length, getD}
-use Rattle.definitions.specs.Sums.{sum, firsts, over}
+use lib.ListN.{getD}
+use Rattle.definitions.specs.Sums.{firsts, over}
 use Rattle.definitions.specs.Chain.{Model, Chain, arrays, chainOf, padded, flat, uniformRate, maxReward, jumpMillionths}
-use Rattle.definitions.specs.Vectors.{ONE, U}
-use Rattle.definitions.specs.Weights.{GREATEST, mode, weight, weightSum}
+use Rattle.definitions.specs.Vectors.{U}
+use Rattle.definitions.specs.Weights.{weight, weightSum}
 use Rattle.definitions.specs.Level.{level}
 use Rattle.definitions.specs.Moment.{term, weighted, lastQuotient, weightedMean, moment, cell, modelLevel}
 use Rattle.laws.specs.SumLaws.{sum-same}
-use Rattle.laws.specs.ListLaws.{getD-firsts, over-same}
+use Rattle.laws.specs.ListLaws.{over-same}
 use Rattle.laws.specs.ChainLaws.{SameChain, arrays-same}
-use Rattle.laws.specs.VectorLaws.{Stochastic, U-bound, U-same}
+use Rattle.laws.specs.VectorLaws.{U-bound, U-same}
 use Rattle.laws.specs.WeightLaws.{weight-max, weightSum-min, weightSum-max}
 use Rattle.laws.specs.LevelLaws.{level-max, level-mode}
 use Rattle.laws.specs.MomentLaws.{weighted-max}
 use Rattle.laws.specs.Acceptance.{Good, stochastic}
-use Rattle.vectors.specs.Ready.{Ready}
-use Rattle.vectors.specs.ModelLaws.{model-ready}
+use Rattle.poisson.specs.CallerLaws.{weight-at}
+use Rattle.vectors.specs.ModelLaws.{held, model-ready}
 use Rattle.moments.specs.Running.{partSum, partSums, Summable, Divisible}
-use Rattle.moments.specs.RunningLaws.{row-of-cell, state-of-cell, count-max, sums-at}
+use Rattle.moments.specs.RunningLaws.{state-of-cell, count-max, sums-at}
 use Rattle.moments.specs.Solving.{cellMean, Solvable, ReadAs}
 
 -- equal values up to N have equal weighted means
@@ -41,7 +40,7 @@ module _ (c f : List ℕ) (M E F R X ε : ℕ) (g : Solvable c f M E F R X ε) (
   short = level-max X ε (g .jumps-max) (g .tolerance-pos)
 
   weight-in : (n : ℕ) → n ≤ level X ε → getD w n 0 ≡ weight X n
-  weight-in n h = ap (λ (l : List ℕ). getD l n 0) ew ∙ getD-firsts 564 (weight X) n (omega (arith, short))
+  weight-in n h = weight-at X n w ew (omega (arith, short))
 
   pub summable : Summable c f M E F R w (level X ε)
   summable =
@@ -86,10 +85,7 @@ module _ (c f : List ℕ) (M E F R X ε : ℕ) (g : Solvable c f M E F R X ε) (
       (λ k l. ap (λ (v : ℕ). lastQuotient v (weightSum X (level X ε))) (sum-is k l)))
 
 module _ (m : Model) (g : Good m) where
-  abbrev stored : Chain
-  stored = arrays (m .states) (uniformRate m) (flat (chainOf m)) (padded (m .states) (m .reward)) (maxReward m)
-
-  same : SameChain stored (chainOf m)
+  same : SameChain (held m) (chainOf m)
   same = arrays-same (chainOf m) (g .states-max)
 
   -- the arrays of an accepted model are within the limits
@@ -106,11 +102,11 @@ module _ (m : Model) (g : Good m) where
       }
 
   -- and their means are the model's moments
-  pub means-of-model : (cells : List ℕ) → over (m .states * m .highest) (cellMean stored (jumpMillionths m) (m .highest) (modelLevel m)) cells ≡ over (m .states * m .highest) (cell m (modelLevel m)) cells
+  pub means-of-model : (cells : List ℕ) → over (m .states * m .highest) (cellMean (held m) (jumpMillionths m) (m .highest) (modelLevel m)) cells ≡ over (m .states * m .highest) (cell m (modelLevel m)) cells
   unfolding cellMean cell moment
   means-of-model cells =
-      over-same (m .states * m .highest) (cellMean stored (jumpMillionths m) (m .highest) (modelLevel m)) (cell m (modelLevel m)) cells
-      (λ k l. mean-same (jumpMillionths m) (modelLevel m) _ _ (λ n h. U-same stored (chainOf m) same n (k % m .highest + 1) (k / m .highest) (state-of-cell k (m .states) (m .highest) (g .highest-pos) l)))
+      over-same (m .states * m .highest) (cellMean (held m) (jumpMillionths m) (m .highest) (modelLevel m)) (cell m (modelLevel m)) cells
+      (λ k l. mean-same (jumpMillionths m) (modelLevel m) _ _ (λ n h. U-same (held m) (chainOf m) same n (k % m .highest + 1) (k / m .highest) (state-of-cell k (m .states) (m .highest) (g .highest-pos) l)))
 
 -- what was read of a good model can be solved, and its solution is the model's level and moments
 module _ (m : Model) (g : Good m) (c f : List ℕ) (M E F R X ε : ℕ) (e : ReadAs m c f M E F R X ε) where

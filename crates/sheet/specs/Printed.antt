@@ -1,9 +1,8 @@
--- What `write_sheet` asks and leaves, and two laws for its callers. Assumes nothing.
-use mathlib.Core.Path.{_≡_, refl}
+-- What `write_sheet` asks and leaves, each named. Assumes nothing.
+use mathlib.Core.Path.{_≡_}
 use mathlib.Core.List.{List, [], _∷_, _++_}
 use Prim.Native.Nat.{ℕ, _+_, _*_, _≤_}
-use lib.ListN.{length, take, drop}
-use lib.Seq.{take-append-seam}
+use lib.ListN.{length}
 use Rattle.definitions.specs.declared.Outcome.{Outcome}
 use Rattle.definitions.specs.declared.Outcome.the-variants as ended
 use Rattle.definitions.specs.Sheet.{decimal, figure, sheetOf, written}
@@ -36,13 +35,3 @@ pub record Printed (o : Outcome) (M R : ℕ) (cells old new : List ℕ) (count :
   pub fits : count ≤ 16384
   pub inside : count ≤ length new
   pub bytes : new ≡ written (sheetOf o M R cells) old
-
--- a caller who knows the shape where the outcome is a level may print
-pub printable : (o : Outcome) (M R : ℕ) (cells : List ℕ) → ((N : ℕ) → o ≡ ended.Level N → Shape M R cells) → Printable o M R cells
-printable (ended.Level N) M R cells shape = shape N refl
-printable (ended.Refused k) M R cells shape = tt
-
--- the first count bytes are the sheet
-pub first-bytes : {o : Outcome} {M R count : ℕ} {cells old new : List ℕ} → Printed o M R cells old new count → take count new ≡ sheetOf o M R cells
-unfolding written
-first-bytes p = rw (p .bytes, p .counted, take-append-seam)

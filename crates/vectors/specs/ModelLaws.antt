@@ -10,8 +10,6 @@ use Rattle.laws.specs.ChainLaws.{SameChain, arrays-same}
 use Rattle.laws.specs.VectorLaws.{Stochastic}
 use Rattle.laws.specs.Acceptance.{Good, stochastic}
 use Rattle.vectors.specs.Ready.{Ready, RewardsReady, FirstReady, TableReady}
-use Rattle.vectors.specs.Table.{tableOf}
-use Rattle.vectors.specs.TableLaws.{table-same}
 
 -- a chain that agrees with one in range is in range
 pub stochastic-same : (a b : Chain) → SameChain a b → Stochastic b → Stochastic a
@@ -38,9 +36,6 @@ model-ready m good =
       largest-max = good .rewards-max;
       stochastic = stochastic-same (held m) (chainOf m) (arrays-same (chainOf m) (good .states-max)) (stochastic m);
     }
-
-pub model-table : (m : Model) → Good m → (R n : ℕ) → tableOf (held m) R n ≡ tableOf (chainOf m) R n
-model-table m good R n = table-same (held m) (chainOf m) R n (arrays-same (chainOf m) (good .states-max))
 
 -- what is ready for the steps is ready for the vectors of n = 0, and for those of n ≥ 1
 pub rewards-ready : (c f : List ℕ) (M E F : ℕ) → Ready c f M E F → RewardsReady f M F

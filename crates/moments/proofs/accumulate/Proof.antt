@@ -1,23 +1,14 @@
 -- The sums after n terms, and the vectors of n, as n rises to the level.
-use Prim.Native.Nat.{ℕ, _+_, _-_, _*_, _≤_, _<_}
+use Prim.Native.Nat.{_+_, _-_, _≤_}
 use native.Mathlib.Omega.{arith}
-use mathlib.Core.Path.{_≡_, refl, sym, _∙_, ap}
-use mathlib.Core.List.{List}
-use borrow.Author.Needs.{needs}
-use lib.ListN.{length, getD}
+use mathlib.Core.Path.{_≡_, _∙_}
 use Rattle.definitions.specs.Chain.{arrays}
 use Rattle.vectors.specs.Table.{tableOf}
 use Rattle.vectors.specs.ModelLaws.{first-ready}
-use Rattle.moments.specs.Running.{partSums, Addable, Summable}
+use Rattle.moments.specs.Running.{partSums}
 use Rattle.moments.specs.RunningLaws.{sums-none, may-add, added}
 use Rattle.moments.proofs.accumulate.Statement.{statement}
 use Rattle.moments.proofs.accumulate.Tie as tie
-use Rattle.moments.proofs.accumulate.Reads as reads
-use Rattle.moments.proofs.accumulate.Lts as lts
-use Rattle.moments.proofs.add_terms.Reads as add-terms-reads
-use Rattle.moments.proofs.no_sums.Reads as no-sums-reads
-use Rattle.vectors.proofs.first_table.Reads as first-table-reads
-use Rattle.vectors.proofs.next_table.Reads as next-table-reads
 
 abbrev Inv-loop : tie.InvT-loop
 Inv-loop chain rewards states rate largest highest weights level table₀ sums₀ n₀ table sums n =
@@ -26,19 +17,15 @@ Inv-loop chain rewards states rate largest highest weights level table₀ sums�
 abbrev μ-loop : tie.MeasureT-loop
 μ-loop chain rewards states rate largest highest weights level table₀ sums₀ n₀ table sums n = level - n
 
--- src/lib.rt:72:9
 first-table-requires : tie.Need-first-table-requires Inv-loop μ-loop
 first-table-requires c κs = first-ready _ _ _ _ _ _ (c .pre .ready) (c .pre .highest-max)
 
--- src/lib.rt:73:30
 no-sums-requires : tie.Need-no-sums-requires Inv-loop μ-loop
 no-sums-requires c κs = tt
 
--- src/lib.rt:73:48
 element-copy-out-add-terms : tie.Need-element-copy-out-add-terms Inv-loop μ-loop
 element-copy-out-add-terms c = omega arith
 
--- src/lib.rt:73:9
 add-terms-requires : tie.Need-add-terms-requires Inv-loop μ-loop
 add-terms-requires c κs =
     let a = c .before .before .before .args in
@@ -46,7 +33,6 @@ add-terms-requires c κs =
     (c .before .no-sums .ensures ∙ sums-none _ _ _)
     (c .before .before .first-table .ensures (a .chain .now) (a .rate))
 
--- src/lib.rt:75:5
 loop-holds : tie.Need-loop-holds Inv-loop μ-loop
 loop-holds c =
     let start = c .before .before .before .before in
@@ -54,26 +40,21 @@ loop-holds c =
     let table = c .before .before .before .first-table .ensures (a .chain .now) (a .rate) in
     (omega arith, table, added _ _ (a .states) (a .rate) (a .largest) (a .highest) _ (a .level) (start .pre) 0 _ _ _ (c .before .before .no-sums .ensures ∙ sums-none _ _ _) table (c .add-terms .ensures))
 
--- src/lib.rt:76:9
 add-n : tie.Need-add-n Inv-loop μ-loop
 add-n c = omega arith
 
--- src/lib.rt:77:13
 next-table-requires : tie.Need-next-table-requires Inv-loop μ-loop
 next-table-requires c κs =
     let start = c .before .before .before .before .before .before in
     let back : c .before .loop .n + 1 - 1 ≡ c .before .loop .n = omega arith in
     (record { ready = start .pre .ready; highest-max = start .pre .highest-max; jumps-pos = omega arith; jumps-max = omega (arith, start .pre .level-max) }, rw back (c .before .loop .inv .1))
 
--- src/lib.rt:88:43
 mul-add-terms : tie.Need-mul-add-terms Inv-loop μ-loop
 mul-add-terms c = omega (arith, c .before .before .before .before .before .before .before .pre .level-max)
 
--- src/lib.rt:88:43
 element-copy-out-add-terms-2 : tie.Need-element-copy-out-add-terms-2 Inv-loop μ-loop
 element-copy-out-add-terms-2 c = omega (arith, c .before .before .before .before .before .before .before .pre .level-max)
 
--- src/lib.rt:88:13
 add-terms-requires-2 : tie.Need-add-terms-requires-2 Inv-loop μ-loop
 add-terms-requires-2 c κs =
     let start = c .before .before .before .before .before .before .before .before in
@@ -81,11 +62,9 @@ add-terms-requires-2 c κs =
     let a = start .args in
     may-add _ _ (a .states) (a .rate) (a .largest) (a .highest) _ (a .level) (start .pre) (at .loop .n + 1) _ _ (omega arith) (at .loop .inv .2) (c .before .next-table .ensures)
 
--- src/lib.rt:75:5
 loop-less : tie.Need-loop-less Inv-loop μ-loop
 loop-less c = omega arith
 
--- src/lib.rt:75:5
 loop-again : tie.Need-loop-again Inv-loop μ-loop
 loop-again c =
     let start = c .before .before .before .before .before .before .before .before .before in
@@ -94,7 +73,6 @@ loop-again c =
     let table = c .before .before .next-table .ensures in
     (omega arith, table, added _ _ (a .states) (a .rate) (a .largest) (a .highest) _ (a .level) (start .pre) (at .loop .n + 1) _ _ _ (at .loop .inv .2) table (c .add-terms2 .ensures))
 
--- src/lib.rt:59:1
 returns : tie.Need-returns Inv-loop μ-loop
 returns c =
     let done : c .before .loop .n ≡ c .before .before .before .before .before .before .args .level = omega arith in

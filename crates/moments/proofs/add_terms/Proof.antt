@@ -1,31 +1,23 @@
 -- The terms of one n are added cell by cell.
 use Prim.Native.Nat.{ℕ, _+_, _-_, _*_, _/_, _%_, _≤_, _<_}
-use native.Mathlib.Nat.{mul-le-mul, mod-lt, div-lt-iff-lt-mul}
 use native.Mathlib.Omega.{arith}
-use mathlib.Core.Path.{_≡_, refl, sym, _∙_, ap, ap₂}
+use mathlib.Core.Path.{_≡_, sym, _∙_, ap, ap₂}
 use mathlib.Core.List.{List}
-use borrow.Author.Needs.{needs}
-use lib.ListN.{length, getD, set, length-set}
+use lib.ListN.{getD}
 use Rattle.definitions.specs.Sums.{over}
 use Rattle.definitions.specs.Moment.{term}
-use Rattle.laws.specs.ListLaws.{over-none, over-store, length-over, getD-over-past}
-use Rattle.moments.specs.Running.{inTable, Addable}
+use Rattle.laws.specs.ListLaws.{over-none, over-store, getD-over-past}
+use Rattle.moments.specs.Running.{inTable}
+use Rattle.moments.specs.RunningLaws.{row-of-cell, state-of-cell, count-max}
 use Rattle.moments.proofs.add_terms.Statement.{statement}
 use Rattle.moments.proofs.add_terms.Tie as tie
-use Rattle.moments.proofs.add_terms.Reads as reads
-use Rattle.moments.proofs.add_terms.Lts as lts
-use Rattle.moments.proofs.one_term.Reads as one-term-reads
 
 -- the r and the state of a cell below M × R are in the table
 row-in : (k R : ℕ) → 1 ≤ R → R ≤ 8 → k % R + 1 < 9
-row-in k R low high = omega (arith, mod-lt k {m = R} low)
+row-in k R low high = omega (arith, row-of-cell k R low)
 
 state-in : (k M R : ℕ) → 1 ≤ R → M ≤ 64 → k < M * R → k / R < 64
-state-in k M R low high h = omega (arith, div-lt-iff-lt-mul {k = R} {x = k} {y = M} low .1 h)
-
--- M × R is at most 512
-count-max : (M R : ℕ) → M ≤ 64 → R ≤ 8 → M * R ≤ 512
-count-max M R h l = omega (arith, mul-le-mul h l)
+state-in k M R low high h = omega (arith, state-of-cell k M R low h)
 
 abbrev Inv-loop : tie.InvT-loop
 Inv-loop w states highest table count next₀ k₀ next k =
@@ -34,43 +26,33 @@ Inv-loop w states highest table count next₀ k₀ next k =
 abbrev μ-loop : tie.MeasureT-loop
 μ-loop w states highest table count next₀ k₀ next k = count - k
 
--- src/lib.rt:41:17
 mul-count : tie.Need-mul-count Inv-loop μ-loop
-mul-count c = record { fits = omega (arith, mul-le-mul (c .pre .states-max) (c .pre .highest-max)) }
+mul-count c = omega (arith, count-max (c .args .states) (c .args .highest) (c .pre .states-max) (c .pre .highest-max))
 
--- src/lib.rt:43:5
 loop-holds : tie.Need-loop-holds Inv-loop μ-loop
 loop-holds c = (omega arith, sym (over-none _ _))
 
--- src/lib.rt:44:17
 rem-r : tie.Need-rem-r Inv-loop μ-loop
 rem-r c = c .before .before .pre .highest-pos
 
--- src/lib.rt:44:17
 add-r : tie.Need-add-r Inv-loop μ-loop
 add-r c = omega (arith, row-in (c .before .loop .k) (c .before .before .args .highest) (c .before .before .pre .highest-pos) (c .before .before .pre .highest-max))
 
--- src/lib.rt:45:17
 div-i : tie.Need-div-i Inv-loop μ-loop
 div-i c = c .before .before .pre .highest-pos
 
--- src/lib.rt:46:32
 mul-one-term : tie.Need-mul-one-term Inv-loop μ-loop
 mul-one-term c = omega (arith, row-in (c .before .loop .k) (c .before .before .args .highest) (c .before .before .pre .highest-pos) (c .before .before .pre .highest-max))
 
--- src/lib.rt:46:32
 mul-one-term-2 : tie.Need-mul-one-term-2 Inv-loop μ-loop
 mul-one-term-2 c = omega (arith, state-in (c .before .loop .k) (c .before .before .args .states) (c .before .before .args .highest) (c .before .before .pre .highest-pos) (c .before .before .pre .states-max) (c .loop-test .taken))
 
--- src/lib.rt:46:32
 index-1-one-term : tie.Need-index-1-one-term Inv-loop μ-loop
 index-1-one-term c = row-in (c .before .loop .k) (c .before .before .args .highest) (c .before .before .pre .highest-pos) (c .before .before .pre .highest-max)
 
--- src/lib.rt:46:32
 index-2-one-term : tie.Need-index-2-one-term Inv-loop μ-loop
 index-2-one-term c = state-in (c .before .loop .k) (c .before .before .args .states) (c .before .before .args .highest) (c .before .before .pre .highest-pos) (c .before .before .pre .states-max) (c .loop-test .taken)
 
--- src/lib.rt:46:20
 one-term-requires : tie.Need-one-term-requires Inv-loop μ-loop
 one-term-requires c κs =
     let start = c .before .before .before in
@@ -85,11 +67,9 @@ standing c =
 mul-next : tie.Need-mul-next Inv-loop μ-loop
 mul-next c = omega (arith, count-max (c .before .before .before .before .args .states) (c .before .before .before .before .args .highest) (c .before .before .before .before .pre .states-max) (c .before .before .before .before .pre .highest-max))
 
--- src/lib.rt:46:9
 array-read-next : tie.Need-array-read-next Inv-loop μ-loop
 array-read-next c = omega (arith, count-max (c .before .before .before .before .args .states) (c .before .before .before .before .args .highest) (c .before .before .before .before .pre .states-max) (c .before .before .before .before .pre .highest-max))
 
--- src/lib.rt:46:9
 add-next : tie.Need-add-next Inv-loop μ-loop
 add-next c =
     let start = c .before .before .before .before in
@@ -97,26 +77,21 @@ add-next c =
     let in-cells = c .before .before .loop-test .taken in
     omega (arith, standing c, start .pre .room k in-cells, c .one-term .ensures .1, start .pre .weight-max)
 
--- src/lib.rt:46:9
 array-write-next : tie.Need-array-write-next Inv-loop μ-loop
 array-write-next c = omega (arith, count-max (c .before .before .before .before .args .states) (c .before .before .before .before .args .highest) (c .before .before .before .before .pre .states-max) (c .before .before .before .before .pre .highest-max))
 
--- src/lib.rt:43:9
 add-k : tie.Need-add-k Inv-loop μ-loop
 add-k c = omega (arith, count-max (c .before .before .before .before .args .states) (c .before .before .before .before .args .highest) (c .before .before .before .before .pre .states-max) (c .before .before .before .before .pre .highest-max))
 
--- src/lib.rt:43:5
 loop-less : tie.Need-loop-less Inv-loop μ-loop
 loop-less c = omega arith
 
--- src/lib.rt:43:5
 loop-again : tie.Need-loop-again Inv-loop μ-loop
 loop-again c =
     let start = c .before .before .before .before in
     let at = c .before .before .before in
     (omega arith, over-store (at .loop .k) _ (start .args .sums) _ _ (omega (arith, start .pre .entries, count-max (c .before .before .before .before .args .states) (c .before .before .before .before .args .highest) (c .before .before .before .before .pre .states-max) (c .before .before .before .before .pre .highest-max))) (at .loop .inv .1) (ap₂ _+_ (standing c) (c .one-term .ensures .0)))
 
--- src/lib.rt:31:1
 returns : tie.Need-returns Inv-loop μ-loop
 returns c =
     let done : c .before .loop .k ≡ c .before .before .args .states * c .before .before .args .highest = omega arith in

@@ -1,9 +1,7 @@
 -- A refused file touches no cell; an accepted one has its cells filled, and demand 3 holds of them.
-use Prim.Native.Nat.{ℕ}
-use mathlib.Core.Path.{_≡_, refl, sym, _∙_, ap}
-use mathlib.Core.List.{List}
+use mathlib.Core.Path.{_≡_, refl, sym, _∙_}
 use lib.ListN.{length}
-use Rattle.definitions.specs.Moment.{outcome, cellsAfter}
+use Rattle.definitions.specs.Moment.{cellsAfter}
 use Rattle.definitions.specs.Rules.{judgement}
 use Rattle.definitions.specs.declared.Judgement.the-variants as judged
 use Rattle.laws.specs.Acceptance.{facts}
@@ -12,37 +10,26 @@ use Rattle.laws.specs.Demand3.{demand3}
 use borrow.Author.Needs.{needs}
 use Rattle.moments.proofs.calculate.Statement.{statement}
 use Rattle.moments.proofs.calculate.Tie as tie
-use Rattle.moments.proofs.calculate.Reads as reads
-use Rattle.moments.proofs.calculate.Lts as lts
-use Rattle.moments.proofs.fill.Reads as fill-reads
-use Rattle.reader.proofs.judge.Reads as judge-reads
 
--- src/lib.rt:178:9
 judge-requires : tie.Need-judge-requires
 judge-requires c κs = search needs
 
--- src/lib.rt:180:28
 enum-known-judgement : tie.Need-enum-known-judgement
 enum-known-judgement c = search needs
 
--- src/lib.rt:181:58
 enum-told : tie.Need-enum-told
 enum-told c = search needs
 
--- src/lib.rt:181:47
 fill-requires : tie.Need-fill-requires
 fill-requires c κs = facts _ _ (sym (c .before .before .before .judge .ensures) ∙ c .before .enum-told .given .1)
 
--- src/lib.rt:173:1
 returns : tie.Need-returns
 unfolding cellsAfter
 returns c = (sym (outcome-refused _ _ _ (sym (c .before .before .before .judge .ensures) ∙ c .before .judgement .given .1)), (refl, tt))
 
--- src/lib.rt:173:1
 same-length : tie.Need-same-length
 same-length c = search needs
 
--- src/lib.rt:173:1
 returns-2 : tie.Need-returns-2
 returns-2 c =
     let s = c .before .before .before .before .before .before .before .before .before .args .file .now in

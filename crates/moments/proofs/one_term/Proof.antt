@@ -1,20 +1,12 @@
 -- One term of A: small weights by a plain product, the others by multiply-then-divide.
-use Prim.Native.Nat.{ℕ, _*_, _/_, _≤_, _<_}
-use native.Mathlib.Nat.{mul-le-mul, mul-le-mul-left}
+use native.Mathlib.Nat.{mul-le-mul}
 use native.Mathlib.Omega.{arith}
-use mathlib.Core.Path.{_≡_, refl}
+use mathlib.Core.Path.{refl}
 use Rattle.definitions.specs.Moment.{term}
-use Rattle.laws.specs.Rounding.{quotient-at-most}
 use Rattle.muldiv.specs.QuotientLaws.{scalable-part}
+use Rattle.moments.specs.RunningLaws.{term-max}
 use Rattle.moments.proofs.one_term.Statement.{statement}
 use Rattle.moments.proofs.one_term.Tie as tie
-use Rattle.moments.proofs.one_term.Reads as reads
-use Rattle.moments.proofs.one_term.Lts as lts
-use Rattle.muldiv.proofs.scaled.Reads as scaled-reads
-
--- a term is at most its weight
-term-max : (w u : ℕ) → u ≤ 1000000000000 → w * u / 1000000000000 ≤ w
-term-max w u h = quotient-at-most (w * u) w 1000000000000 (mul-le-mul-left w h)
 
 mul-result : tie.Need-mul-result
 mul-result c = record { fits = omega (arith, mul-le-mul (c .if1 .taken) (c .before .pre .1)) }

@@ -1,20 +1,15 @@
 -- The cells are filled one after the other.
-use Prim.Native.Nat.{ℕ, _+_, _-_, _*_, _/_, _≤_, _<_}
+use Prim.Native.Nat.{_-_, _≤_}
 use native.Mathlib.Nat.{mul-le-mul-right}
 use native.Mathlib.Omega.{arith}
-use mathlib.Core.Path.{_≡_, refl, sym, _∙_, ap}
-use mathlib.Core.List.{List}
-use borrow.Author.Needs.{needs}
-use lib.ListN.{length, getD, set, length-set}
+use mathlib.Core.Path.{_≡_, refl, sym}
+use lib.ListN.{length, getD, length-set}
 use Rattle.definitions.specs.Sums.{over}
 use Rattle.definitions.specs.Moment.{lastQuotient}
 use Rattle.laws.specs.ListLaws.{over-none, over-store}
 use Rattle.muldiv.specs.QuotientLaws.{scalable-by}
 use Rattle.moments.proofs.write_moments.Statement.{statement}
 use Rattle.moments.proofs.write_moments.Tie as tie
-use Rattle.moments.proofs.write_moments.Reads as reads
-use Rattle.moments.proofs.write_moments.Lts as lts
-use Rattle.muldiv.proofs.scaled.Reads as scaled-reads
 
 abbrev Inv-loop : tie.InvT-loop
 Inv-loop sums total count cells₀ k₀ cells k =
@@ -23,19 +18,15 @@ Inv-loop sums total count cells₀ k₀ cells k =
 abbrev μ-loop : tie.MeasureT-loop
 μ-loop sums total count cells₀ k₀ cells k = count - k
 
--- src/lib.rt:56:5
 loop-holds : tie.Need-loop-holds Inv-loop μ-loop
 loop-holds c = (omega arith, sym (over-none _ _), refl)
 
--- src/lib.rt:57:35
 mul-scaled : tie.Need-mul-scaled Inv-loop μ-loop
 mul-scaled c = omega arith
 
--- src/lib.rt:57:35
 element-copy-out-scaled : tie.Need-element-copy-out-scaled Inv-loop μ-loop
 element-copy-out-scaled c = omega arith
 
--- src/lib.rt:57:20
 scaled-requires : tie.Need-scaled-requires Inv-loop μ-loop
 scaled-requires c κs =
     let start = c .before .before .before .before in
@@ -44,34 +35,27 @@ scaled-requires c κs =
     let below = start .pre .0 .below k (c .before .loop-test .taken) in
     scalable-by a 1000000000000 (start .args .total) 1000000000000 (start .pre .0 .total-pos) (omega arith) (omega arith) (start .pre .0 .total-max) (omega (arith, mul-le-mul-right 1000000000000 below)) (omega arith)
 
--- src/lib.rt:57:9
 mul-cells : tie.Need-mul-cells Inv-loop μ-loop
 mul-cells c = omega arith
 
--- src/lib.rt:57:9
 slice-write-cells : tie.Need-slice-write-cells Inv-loop μ-loop
 slice-write-cells c = omega arith
 
--- src/lib.rt:56:9
 add-k : tie.Need-add-k Inv-loop μ-loop
 add-k c = omega arith
 
--- src/lib.rt:56:5
 loop-less : tie.Need-loop-less Inv-loop μ-loop
 loop-less c = omega arith
 
--- src/lib.rt:56:5
 loop-again : tie.Need-loop-again Inv-loop μ-loop
 unfolding lastQuotient
 loop-again c =
     let at = c .before .before .before in
     (omega arith, over-store (at .loop .k) _ _ _ (c .scaled .result) (omega arith) (at .loop .inv .1) (c .scaled .ensures), simp length-set (at .loop .inv .2))
 
--- src/lib.rt:52:1
 same-length : tie.Need-same-length Inv-loop μ-loop
 same-length c = c .before .loop .inv .2
 
--- src/lib.rt:52:1
 returns : tie.Need-returns Inv-loop μ-loop
 returns c =
     let done : c .before .loop .k ≡ c .before .before .before .args .count = omega arith in

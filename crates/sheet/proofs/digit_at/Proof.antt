@@ -7,9 +7,6 @@ use Rattle.sheet.specs.TextLaws.{power-positive}
 use borrow.Author.Needs.{needs}
 use Rattle.sheet.proofs.digit_at.Statement.{statement}
 use Rattle.sheet.proofs.digit_at.Tie as tie
-use Rattle.sheet.proofs.digit_at.Reads as reads
-use Rattle.sheet.proofs.digit_at.Lts as lts
-use Rattle.sheet.proofs.power.Reads as power-reads
 
 power-requires : tie.Need-power-requires
 power-requires c κs = search needs

@@ -1,14 +1,10 @@
 -- `sheet::places_of` meets its contract: x is not below the powers that were passed. Assumes nothing.
 use mathlib.Core.Path.{_≡_, sym}
-use Prim.Native.Nat.{ℕ, _+_, _-_, _^_, _<_, _≤_}
+use Prim.Native.Nat.{_+_, _-_, _^_, _<_, _≤_}
 use native.Mathlib.Omega.{arith}
-use borrow.Author.Needs.{needs}
 use Rattle.sheet.specs.TextLaws.{places-found}
 use Rattle.sheet.proofs.places_of.Statement.{statement}
 use Rattle.sheet.proofs.places_of.Tie as tie
-use Rattle.sheet.proofs.places_of.Reads as reads
-use Rattle.sheet.proofs.places_of.Lts as lts
-use Rattle.sheet.proofs.power.Reads as power-reads
 
 abbrev Inv-loop : tie.InvT-loop
 Inv-loop x p₀ p = (0 < p) × (p ≤ 20) × (1 < p → 10 ^ (p - 1) ≤ x)
