@@ -3,6 +3,7 @@ pub mod Rounding
 pub mod SumLaws
 pub mod ListLaws
 pub mod ChainLaws
+pub mod ArrayLaws
 pub mod VectorLaws
 pub mod Acceptance
 pub mod WeightLaws

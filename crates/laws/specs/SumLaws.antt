@@ -1,8 +1,8 @@
 -- Sums, maxima and tests over 0 to n − 1.
-use Prim.Native.Nat.{ℕ, zero, suc, _+_, _*_, _≤_, _<_, max}
+use Prim.Native.Nat.{ℕ, zero, suc, _+_, _*_, _-_, _≤_, _<_, max}
 use native.Mathlib.Omega.{arith}
 use native.Mathlib.Decide.{ℕ-discrete}
-use mathlib.Core.Path.{_≡_, refl, sym, ap, ap₂}
+use mathlib.Core.Path.{_≡_, refl, sym, _∙_, ap, ap₂}
 use mathlib.Core.Bool.{Bool, true, false, _||_}
 use lib.Dec.{ltb}
 use borrow.Author.Tests.{lt-ltb, le-ltb, ltb-true, ltb-false}
@@ -99,3 +99,14 @@ pub sum-split : (n k : ℕ) (f : ℕ → ℕ) → sum (n + k) f ≡ sum n f + su
 unfolding sum
 sum-split n zero f = rw native.Mathlib.Nat.add-zero (omega arith)
 sum-split n (suc k) f = rw native.Mathlib.Nat.add-suc (omega (arith, sum-split n k f))
+
+-- one term more, as code counts
+pub sum-more : (n : ℕ) (f : ℕ → ℕ) → sum (n + 1) f ≡ sum n f + f n
+sum-more n f = ap (λ (m : ℕ). sum m f) (native.Mathlib.Numerals.add-one n) ∙ sum-suc n f
+
+-- part of a sum
+pub sum-part : (n k : ℕ) (f : ℕ → ℕ) → n ≤ k → sum n f ≤ sum k f
+sum-part n k f h = omega (arith, sum-longer n (k - n) f, ap (λ (m : ℕ). sum m f) whole)
+  where
+    whole : n + (k - n) ≡ k
+    whole = omega arith

@@ -12,7 +12,7 @@ use Rattle.definitions.specs.File.{stateCount, rowAt, place}
 use Rattle.definitions.specs.Bytes.{big}
 use Rattle.definitions.specs.Chain.{modelOf, rowSum, uniformRate, c, Chain, chainOf, flat}
 use Rattle.laws.specs.ListLaws.{over-none, over-more}
-use Rattle.reader.specs.Filling.{zeros, length-zeros, over-zeros, over-zeros-all}
+use Rattle.laws.specs.ArrayLaws.{zeros, length-zeros, over-zeros, over-zeros-all}
 use Rattle.reader.specs.Framed.{Framed, entry-in-row}
 
 -- entry k of the array

@@ -14,7 +14,7 @@ ghost use Rattle.definitions.specs.File.{stateCount, highestMoment, toleranceFi
 ghost use Rattle.definitions.specs.Chain.{modelOf, rowSum, uniformRate, maxReward, jumpMillionths, chainOf, padded, flat};
 ghost use Rattle.definitions.specs.Rules.{rows, firstHeld, judgement};
 ghost use Rattle.reader.specs.Framed.{Framed};
-ghost use Rattle.reader.specs.Filling.{zeros, entryOf};
+ghost use Rattle.laws.specs.ArrayLaws.{zeros, entryOf};
 ghost use Rattle.reader.specs.Rows.{chainRows, WritesRow};
 use definitions::Judgement;
 

@@ -7,10 +7,6 @@ use Rattle.definitions.specs.Chain.{arrays}
 use Rattle.definitions.specs.Vectors.{ONE}
 use Rattle.laws.specs.VectorLaws.{Stochastic}
 
--- a list as a vector: its entry at a state
-abbrev pub entries : List ℕ → ℕ → ℕ
-entries v j = getD v j 0
-
 -- the arrays c and f, with M, E and F, hold a chain within document 01's limits
 pub record Ready (c f : List ℕ) (M E F : ℕ) : Type 0 where
   pub states-max : M ≤ 64

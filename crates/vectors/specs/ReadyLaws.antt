@@ -7,7 +7,8 @@ use lib.ListN.{getD}
 use Rattle.definitions.specs.Chain.{arrays}
 use Rattle.definitions.specs.Vectors.{ONE, rowMean, rewardShare}
 use Rattle.laws.specs.VectorLaws.{row-bound, rowMean-bound, rewardShare-bound}
-use Rattle.vectors.specs.Ready.{entries, Ready, Ticks, RowFits}
+use Rattle.laws.specs.ArrayLaws.{entryOf}
+use Rattle.vectors.specs.Ready.{Ready, Ticks, RowFits}
 
 module _ (c f : List ℕ) (M E F : ℕ) (ready : Ready c f M E F) where
   -- f(i) ≤ F ≤ 10^6
@@ -20,12 +21,12 @@ module _ (c f : List ℕ) (M E F : ℕ) (ready : Ready c f M E F) where
       record {
         state = omega arith;
         states-max = ready .states-max;
-        fits = omega (arith, row-bound (arrays M E c f F) (entries v) ONE i (ready .stochastic) l (t .below), mul-le-mul-right ONE (ready .rate-max));
+        fits = omega (arith, row-bound (arrays M E c f F) (entryOf v) ONE i (ready .stochastic) l (t .below), mul-le-mul-right ONE (ready .rate-max));
       }
 
   -- V and W are at most ONE
-  pub mean-small : (v : List ℕ) (i : ℕ) → Ticks M v → i < M → rowMean (arrays M E c f F) (entries v) i ≤ ONE
-  mean-small v i t l = rowMean-bound (arrays M E c f F) (entries v) ONE i (ready .stochastic) l (t .below)
+  pub mean-small : (v : List ℕ) (i : ℕ) → Ticks M v → i < M → rowMean (arrays M E c f F) (entryOf v) i ≤ ONE
+  mean-small v i t l = rowMean-bound (arrays M E c f F) (entryOf v) ONE i (ready .stochastic) l (t .below)
 
   pub share-small : (x i : ℕ) → x ≤ ONE → i < M → rewardShare (arrays M E c f F) x i ≤ ONE
   share-small x i h l = rewardShare-bound (arrays M E c f F) x ONE i (ready .stochastic) l h

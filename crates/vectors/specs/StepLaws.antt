@@ -13,7 +13,8 @@ use Rattle.definitions.specs.Vectors.{ONE, rewardShare, nextEntry, U, vector}
 use Rattle.laws.specs.ListLaws.{firsts-same}
 use Rattle.laws.specs.ChainLaws.{SameChain, getD-padded}
 use Rattle.laws.specs.VectorLaws.{Stochastic, U-zero, U-first, U-next, U-bound, U-same, nextEntry-bound, nextEntry-same}
-use Rattle.vectors.specs.Ready.{entries, Ready, Ticks}
+use Rattle.laws.specs.ArrayLaws.{entryOf}
+use Rattle.vectors.specs.Ready.{Ready, Ticks}
 
 -- vectors that agree at the states are one array
 pub padded-same : (M : ℕ) (f g : ℕ → ℕ) → ((i : ℕ) → i < M → f i ≡ g i) → padded M f ≡ padded M g
@@ -32,10 +33,10 @@ pub padded-ticks : (M : ℕ) (f : ℕ → ℕ) → M ≤ 64 → ((i : ℕ) → i
 padded-ticks M f h b = record { below = λ j l. omega (arith, getD-padded M f j h l, b j l) }
 
 -- a step's result is in range again
-pub step-ticks : (c f : List ℕ) (M E F n r : ℕ) (before same : List ℕ) → Ready c f M E F → Ticks M before → Ticks M same → Ticks M (padded M (nextEntry (arrays M E c f F) n r (entries before) (entries same)))
+pub step-ticks : (c f : List ℕ) (M E F n r : ℕ) (before same : List ℕ) → Ready c f M E F → Ticks M before → Ticks M same → Ticks M (padded M (nextEntry (arrays M E c f F) n r (entryOf before) (entryOf same)))
 step-ticks c f M E F n r before same ready tb ts =
-    padded-ticks M (nextEntry (arrays M E c f F) n r (entries before) (entries same)) (ready .states-max)
-    (λ i l. nextEntry-bound (arrays M E c f F) n r (entries before) (entries same) ONE i (ready .stochastic) l (tb .below) (ts .below i l))
+    padded-ticks M (nextEntry (arrays M E c f F) n r (entryOf before) (entryOf same)) (ready .states-max)
+    (λ i l. nextEntry-bound (arrays M E c f F) n r (entryOf before) (entryOf same) ONE i (ready .stochastic) l (tb .below) (ts .below i l))
 
 -- U(n,r) ≤ ONE
 pub vector-ticks : (ch : Chain) (n r : ℕ) → ch .states ≤ 64 → Stochastic ch → Ticks (ch .states) (vector ch n r)
@@ -62,17 +63,17 @@ itself : (ch : Chain) → SameChain ch ch
 itself ch = record { states = refl; rate = refl; largestReward = refl; entry = λ i j li lj. refl; reward = λ i l. refl }
 
 -- U(n,r) from U(n−1,r) and U(n,r−1)
-pub vector-next : (ch : Chain) (n r : ℕ) → ch .states ≤ 64 → padded (ch .states) (nextEntry ch (suc n) (suc r) (entries (vector ch n (suc r))) (entries (vector ch (suc n) r))) ≡ vector ch (suc n) (suc r)
+pub vector-next : (ch : Chain) (n r : ℕ) → ch .states ≤ 64 → padded (ch .states) (nextEntry ch (suc n) (suc r) (entryOf (vector ch n (suc r))) (entryOf (vector ch (suc n) r))) ≡ vector ch (suc n) (suc r)
 unfolding vector
 vector-next ch n r h =
-    padded-same (ch .states) (nextEntry ch (suc n) (suc r) (entries (vector ch n (suc r))) (entries (vector ch (suc n) r))) (U ch (suc n) (suc r))
+    padded-same (ch .states) (nextEntry ch (suc n) (suc r) (entryOf (vector ch n (suc r))) (entryOf (vector ch (suc n) r))) (U ch (suc n) (suc r))
     (λ i l.
-    nextEntry-same ch ch (suc n) (suc r) (entries (vector ch n (suc r))) (U ch n (suc r)) (entries (vector ch (suc n) r)) (U ch (suc n) r) i (itself ch) l
+    nextEntry-same ch ch (suc n) (suc r) (entryOf (vector ch n (suc r))) (U ch n (suc r)) (entryOf (vector ch (suc n) r)) (U ch (suc n) r) i (itself ch) l
     (λ j k. getD-vector ch n (suc r) j h k) (getD-vector ch (suc n) r i h l)
     ∙ sym (U-next ch n r i))
 
 -- the same with the indices as the code has them
-next-row : (ch : Chain) (n r : ℕ) → 1 ≤ n → 1 ≤ r → ch .states ≤ 64 → padded (ch .states) (nextEntry ch n r (entries (vector ch (n - 1) r)) (entries (vector ch n (r - 1)))) ≡ vector ch n r
+next-row : (ch : Chain) (n r : ℕ) → 1 ≤ n → 1 ≤ r → ch .states ≤ 64 → padded (ch .states) (nextEntry ch n r (entryOf (vector ch (n - 1) r)) (entryOf (vector ch n (r - 1)))) ≡ vector ch n r
 next-row ch zero r hn hr h = absurd (omega arith)
 next-row ch (suc n) zero hn hr h = absurd (omega arith)
 next-row ch (suc n) (suc r) hn hr h = rw (less n, less r) (vector-next ch n r h)
@@ -81,8 +82,8 @@ next-row ch (suc n) (suc r) hn hr h = rw (less n, less r) (vector-next ch n r h)
     less k = omega arith
 
 -- a step's result, from the two vectors that it was handed
-pub step-row : (ch : Chain) (n r : ℕ) → 1 ≤ n → 1 ≤ r → ch .states ≤ 64 → {x before same : List ℕ} → x ≡ padded (ch .states) (nextEntry ch n r (entries before) (entries same)) → before ≡ vector ch (n - 1) r → same ≡ vector ch n (r - 1) → x ≡ vector ch n r
-step-row ch n r hn hr h e eb es = e ∙ ap₂ (λ (a : List ℕ) (b : List ℕ). padded (ch .states) (nextEntry ch n r (entries a) (entries b))) eb es ∙ next-row ch n r hn hr h
+pub step-row : (ch : Chain) (n r : ℕ) → 1 ≤ n → 1 ≤ r → ch .states ≤ 64 → {x before same : List ℕ} → x ≡ padded (ch .states) (nextEntry ch n r (entryOf before) (entryOf same)) → before ≡ vector ch (n - 1) r → same ≡ vector ch n (r - 1) → x ≡ vector ch n r
+step-row ch n r hn hr h e eb es = e ∙ ap₂ (λ (a : List ℕ) (b : List ℕ). padded (ch .states) (nextEntry ch n r (entryOf a) (entryOf b))) eb es ∙ next-row ch n r hn hr h
 
 pub first-row : (ch : Chain) (r : ℕ) → 1 ≤ r → ch .states ≤ 64 → padded (ch .states) (λ i. rewardShare ch (getD (vector ch 0 (r - 1)) i 0) i) ≡ vector ch 0 r
 first-row ch zero hr h = absurd (omega arith)

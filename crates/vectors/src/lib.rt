@@ -8,7 +8,8 @@ ghost use Prim.Native.Nat.{ℕ, _*_, _-_, _/_, _≤_, _<_};
 ghost use lib.ListN.{getD};
 ghost use Rattle.definitions.specs.Chain.{arrays, padded};
 ghost use Rattle.definitions.specs.Vectors.{rowMean, rewardShare, nextEntry, ONE};
-ghost use Rattle.vectors.specs.Ready.{entries, RowFits, StepReady, SharesReady, FirstReady, TableReady};
+ghost use Rattle.laws.specs.ArrayLaws.{entryOf};
+ghost use Rattle.vectors.specs.Ready.{RowFits, StepReady, SharesReady, FirstReady, TableReady};
 ghost use Rattle.vectors.specs.Table.{tableOf};
 
 // ONE, in ticks.
@@ -18,7 +19,7 @@ const ONE_IN_TICKS: u64 = 1_000_000_000_000;
 fn row_mean(chain: &[u64; 4096], states: usize, rate: u64, v: &[u64; 64], i: usize) -> u64
     requires { ⌜ RowFits (now chain) states (now v) i ⌝ }
     requires { ⌜ 0 < rate ⌝ }
-    ensures { λ r. ⌜ r ≡ rowMean (arrays states rate (now (chain .entry)) [] 0) (entries (now (v .entry))) i ⌝ }
+    ensures { λ r. ⌜ r ≡ rowMean (arrays states rate (now (chain .entry)) [] 0) (entryOf (now (v .entry))) i ⌝ }
 {
     let mut total = 0;
     for j in 0..states {
@@ -50,7 +51,7 @@ fn entry(
 ) -> u64
     requires { ⌜ StepReady (now chain) (now rewards) states rate largest n r (now before) (now same) ⌝ }
     requires { ⌜ i < states ⌝ }
-    ensures { λ u. ⌜ u ≡ nextEntry (arrays states rate (now (chain .entry)) (now (rewards .entry)) largest) n r (entries (now (before .entry))) (entries (now (same .entry))) i ⌝ }
+    ensures { λ u. ⌜ u ≡ nextEntry (arrays states rate (now (chain .entry)) (now (rewards .entry)) largest) n r (entryOf (now (before .entry))) (entryOf (now (same .entry))) i ⌝ }
 {
     let v = row_mean(chain, states, rate, before, i);
     let w = reward_share(rewards[i], same[i], largest);
@@ -70,7 +71,7 @@ pub fn step(
     same: [u64; 64],
 ) -> [u64; 64]
     requires { ⌜ StepReady (now chain) (now rewards) states rate largest n r before same ⌝ }
-    ensures { λ u. ⌜ u ≡ padded states (nextEntry (arrays states rate (now (chain .entry)) (now (rewards .entry)) largest) n r (entries before) (entries same)) ⌝ }
+    ensures { λ u. ⌜ u ≡ padded states (nextEntry (arrays states rate (now (chain .entry)) (now (rewards .entry)) largest) n r (entryOf before) (entryOf same)) ⌝ }
 {
     let mut next = [0u64; 64];
     for i in 0..states {

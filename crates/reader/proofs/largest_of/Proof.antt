@@ -6,7 +6,7 @@ use native.Mathlib.Numerals.{add-one}
 use borrow.Author.Needs.{needs}
 use Rattle.definitions.specs.Sums.{largest}
 use Rattle.laws.specs.SumLaws.{largest-zero, largest-suc}
-use Rattle.reader.specs.Filling.{entryOf}
+use Rattle.laws.specs.ArrayLaws.{entryOf}
 use Rattle.reader.proofs.largest_of.Statement.{statement}
 use Rattle.reader.proofs.largest_of.Tie as tie
 

@@ -1,6 +1,6 @@
 -- `reader::no_rows` meets its contract. Assumes nothing.
 use mathlib.Core.Path.{refl}
-use Rattle.reader.specs.Filling.{zeros}
+use Rattle.laws.specs.ArrayLaws.{zeros}
 use Rattle.reader.proofs.no_rows.Statement.{statement}
 use Rattle.reader.proofs.no_rows.Tie as tie
 

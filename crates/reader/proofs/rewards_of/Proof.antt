@@ -7,7 +7,7 @@ use Rattle.definitions.specs.Sums.{over}
 use Rattle.definitions.specs.File.{rewardField, stateCount}
 use Rattle.laws.specs.ListLaws.{over-none, over-more}
 use Rattle.reader.specs.Framed.{reward-room}
-use Rattle.reader.specs.Filling.{zeros, length-zeros, over-padded}
+use Rattle.laws.specs.ArrayLaws.{zeros, length-zeros, over-padded}
 use Rattle.reader.proofs.rewards_of.Statement.{statement}
 use Rattle.reader.proofs.rewards_of.Tie as tie
 

@@ -7,7 +7,7 @@ use Rattle.definitions.specs.Sums.{over}
 use Rattle.definitions.specs.File.{stateCount}
 use Rattle.definitions.specs.Chain.{modelOf, rowSum}
 use Rattle.laws.specs.ListLaws.{over-none, over-more}
-use Rattle.reader.specs.Filling.{zeros, length-zeros, over-padded}
+use Rattle.laws.specs.ArrayLaws.{zeros, length-zeros, over-padded}
 use Rattle.reader.proofs.row_sums.Statement.{statement}
 use Rattle.reader.proofs.row_sums.Tie as tie
 

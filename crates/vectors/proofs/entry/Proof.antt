@@ -7,7 +7,7 @@ use denote.Ref.{now}
 use borrow.Author.Needs.{needs}
 use Rattle.definitions.specs.Chain.{Chain, arrays}
 use Rattle.definitions.specs.Vectors.{ONE, rowMean, rewardShare, mix, nextEntry}
-use Rattle.vectors.specs.Ready.{entries}
+use Rattle.laws.specs.ArrayLaws.{entryOf}
 use Rattle.vectors.specs.ReadyLaws.{reward-small, row-fits, mean-small, share-small}
 use Rattle.vectors.proofs.entry.Statement.{statement}
 use Rattle.vectors.proofs.entry.Tie as tie
@@ -34,13 +34,13 @@ chain start = arrays (start .args .states) (start .args .rate) (now (start .args
 -- V and W, and that neither passes ONE
 mean : (c : tie.After-reward-share) →
     let start = c .before .before .before .before in
-    c .before .before .before .row-mean .result ≡ rowMean (chain start) (entries (now (start .args .before))) (start .args .i)
+    c .before .before .before .row-mean .result ≡ rowMean (chain start) (entryOf (now (start .args .before))) (start .args .i)
 unfolding rowMean
 mean c = omega (arith, c .before .before .before .row-mean .ensures)
 
 share : (c : tie.After-reward-share) →
     let start = c .before .before .before .before in
-    c .reward-share .result ≡ rewardShare (chain start) (entries (now (start .args .same)) (start .args .i)) (start .args .i)
+    c .reward-share .result ≡ rewardShare (chain start) (entryOf (now (start .args .same)) (start .args .i)) (start .args .i)
 unfolding rewardShare
 share c = omega (arith, c .reward-share .ensures)
 
@@ -51,7 +51,7 @@ small c =
     let given = start .pre .0 in
     let l = start .pre .1 in
     let v = now (args .before) in
-    let x = entries (now (args .same)) (args .i) in
+    let x = entryOf (now (args .same)) (args .i) in
     let below-mean = mean-small (now (args .chain)) (now (args .rewards)) (args .states) (args .rate) (args .largest) (given .ready) v (args .i) (given .before-ticks) l in
     let below-share = share-small (now (args .chain)) (now (args .rewards)) (args .states) (args .rate) (args .largest) (given .ready) x (args .i) (given .same-ticks .below (args .i) l) l in
     (omega (arith, mean c, below-mean), omega (arith, share c, below-share))

@@ -8,7 +8,7 @@ use mathlib.Core.List.{List}
 use Rattle.definitions.specs.Sums.{sum}
 use Rattle.definitions.specs.Vectors.{rowMean}
 use Rattle.laws.specs.SumLaws.{sum-zero}
-use Rattle.vectors.proofs.Parts.{sum-more, sum-part}
+use Rattle.laws.specs.SumLaws.{sum-more, sum-part}
 use Rattle.vectors.proofs.row_mean.Statement.{statement}
 use Rattle.vectors.proofs.row_mean.Tie as tie
 

@@ -5,14 +5,14 @@ use native.Mathlib.Omega.{arith}
 use denote.Ref.{now}
 use Rattle.definitions.specs.Chain.{arrays}
 use Rattle.definitions.specs.Vectors.{nextEntry}
-use Rattle.vectors.specs.Ready.{entries}
+use Rattle.laws.specs.ArrayLaws.{entryOf}
 use Rattle.vectors.proofs.Filled.{Filled, filled-none, filled-more, filled-all}
 use Rattle.vectors.proofs.step.Statement.{statement}
 use Rattle.vectors.proofs.step.Tie as tie
 
 -- U(n,r)
 abbrev u : List ℕ → List ℕ → ℕ → ℕ → ℕ → ℕ → ℕ → List ℕ → List ℕ → ℕ → ℕ
-u c f M E F n r before same = nextEntry (arrays M E c f F) n r (entries before) (entries same)
+u c f M E F n r before same = nextEntry (arrays M E c f F) n r (entryOf before) (entryOf same)
 
 abbrev Inv-loop : tie.InvT-loop
 Inv-loop chain rewards states rate largest n r before same next₀ i₀ next i =

@@ -7,7 +7,7 @@ use lib.ListN.{getD}
 use denote.Ref.{now}
 use Rattle.definitions.specs.Sums.{sum}
 use Rattle.laws.specs.SumLaws.{sum-zero}
-use Rattle.vectors.proofs.Parts.{sum-more}
+use Rattle.laws.specs.SumLaws.{sum-more}
 use Rattle.vectors_print.proofs.Never.{never}
 use Rattle.vectors_print.proofs.checked.row.Statement.{statement}
 use Rattle.vectors_print.proofs.checked.row.Tie as tie
