@@ -1,16 +1,15 @@
 // The moments of the accumulated reward: a file in, the level and the moments out.
 ghost use mathlib.Core.Path.{_≡_};
-ghost use mathlib.Core.List.{List, []};
-ghost use Prim.Native.Nat.{ℕ, _+_, _*_, _/_, _%_, _≤_, _<_};
+ghost use Prim.Native.Nat.{_+_, _*_, _≤_};
 ghost use lib.ListN.{length, getD, replicate};
 ghost use Rattle.definitions.specs.Sums.{over};
 ghost use Rattle.definitions.specs.Chain.{arrays, modelOf};
 ghost use Rattle.definitions.specs.Vectors.{ONE};
 ghost use Rattle.definitions.specs.Weights.{GREATEST};
+ghost use Rattle.definitions.specs.Level.{level};
 ghost use Rattle.definitions.specs.Moment.{term, lastQuotient, modelLevel, outcome, cellsAfter};
 ghost use Rattle.definitions.specs.Promise.{Promised};
 ghost use Rattle.laws.specs.Acceptance.{Facts};
-ghost use Rattle.definitions.specs.Level.{level};
 ghost use Rattle.moments.specs.Solving.{cellMean, Solvable};
 ghost use Rattle.moments.specs.Running.{inTable, partSums, Addable, Summable, Divisible};
 use definitions::Judgement;

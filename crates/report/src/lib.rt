@@ -1,6 +1,6 @@
 // From a model file's bytes to the bytes of its printed sheet.
 ghost use mathlib.Core.Path.{_≡_};
-ghost use lib.ListN.{length, replicate};
+ghost use lib.ListN.{replicate};
 ghost use Rattle.report.specs.Reported.{Reported};
 use definitions::Outcome;
 
