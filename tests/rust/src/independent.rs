@@ -1,0 +1,201 @@
+//! Document 01's calculation, written from the paper alone, in plain u128 arithmetic.
+//!
+//! Nothing here was taken from the proved code: not its helper, not its order of work. Every product is
+//! formed whole in 128 bits and divided once, so each line can be read against the paper's sentence.
+//! The comparison (`main.rs`) and the measurement (`bench/`) both use this one file.
+
+/// 10^12 ticks, the paper's ONE.
+const ONE: u128 = 1_000_000_000_000;
+/// 10^15, the weight w(m).
+const PEAK: u128 = 1_000_000_000_000_000;
+/// Millionths in a whole: X is counted in millionths of an expected jump.
+const MILLION: u128 = 1_000_000;
+/// Billionths in a whole: the unit of the tolerance.
+const BILLION: u128 = 1_000_000_000;
+
+/// A file that no row of the table holds, taken apart.
+struct Model {
+    /// R, the highest moment.
+    highest: usize,
+    /// ε, in billionths.
+    tolerance: u128,
+    /// T, in whole hours.
+    time: u128,
+    /// f, one reward rate for each state.
+    rewards: Vec<u128>,
+    /// c, row by row, the diagonal filled in: every row sums to E.
+    chain: Vec<Vec<u128>>,
+    /// E, the largest row sum, or 1.
+    exit: u128,
+}
+
+/// The unsigned big-endian number in `width` bytes from `at`.
+fn number(file: &[u8], at: usize, width: usize) -> u128 {
+    file[at..at + width].iter().fold(0, |sum, &byte| sum * 256 + u128::from(byte))
+}
+
+/// The table "What stops a file", row by row; the first row that holds is returned.
+fn read(file: &[u8], cells: usize) -> Result<Model, u8> {
+    // 1: fewer than 13 bytes
+    if file.len() < 13 {
+        return Err(1);
+    }
+    // 2: length differs from the bytes after it
+    let length = number(file, 0, 2);
+    if length != file.len() as u128 - 2 {
+        return Err(2);
+    }
+    // 3: version is not 1
+    if file[2] != 1 {
+        return Err(3);
+    }
+    // 4: M is 0 or above 64
+    let states = usize::from(file[3]);
+    if states == 0 || states > 64 {
+        return Err(4);
+    }
+    // 5: R is 0 or above 8
+    let highest = usize::from(file[4]);
+    if highest == 0 || highest > 8 {
+        return Err(5);
+    }
+    // 6: length is not 4 × M × M + 11
+    if length != (4 * states * states + 11) as u128 {
+        return Err(6);
+    }
+    // 7: ε is 0 or above 100,000,000
+    let tolerance = number(file, 5, 4);
+    if tolerance == 0 || tolerance > 100_000_000 {
+        return Err(7);
+    }
+    // 8: T is 0
+    let time = number(file, 9, 4);
+    if time == 0 {
+        return Err(8);
+    }
+    // 9: a reward rate above 1,000,000
+    let rewards: Vec<u128> = (0..states).map(|i| number(file, 13 + 4 * i, 4)).collect();
+    if rewards.iter().any(|&f| f > 1_000_000) {
+        return Err(9);
+    }
+    // 10: all reward rates 0
+    if rewards.iter().all(|&f| f == 0) {
+        return Err(10);
+    }
+    // the rates from i to each other j, j rising, the diagonal left out (0 for now)
+    let mut at = 13 + 4 * states;
+    let mut chain = vec![vec![0; states]; states];
+    for i in 0..states {
+        for j in 0..states {
+            if j != i {
+                chain[i][j] = number(file, at, 4);
+                at += 4;
+            }
+        }
+    }
+    // 11: a row's rates sum above 10,000,000
+    let sums: Vec<u128> = chain.iter().map(|row| row.iter().sum()).collect();
+    if sums.iter().any(|&sum| sum > 10_000_000) {
+        return Err(11);
+    }
+    // E: the largest row sum, or 1 where all row sums are 0
+    let exit = match sums.iter().max() {
+        Some(&largest) if largest > 0 => largest,
+        _ => 1,
+    };
+    // 12: E × T above 256,000,000
+    if exit * time > 256_000_000 {
+        return Err(12);
+    }
+    // 13: fewer than M × R answer cells
+    if cells < states * highest {
+        return Err(13);
+    }
+    // c(i,i) is E less row i's sum
+    for i in 0..states {
+        chain[i][i] = exit - sums[i];
+    }
+    Ok(Model { highest, tolerance, time, rewards, chain, exit })
+}
+
+/// The weights w(0) .. w(N) and the level N.
+fn weigh(model: &Model) -> (Vec<u128>, usize) {
+    // X = E × T; m is q = X / 1,000,000 rounded down
+    let x = model.exit * model.time;
+    let m = x / MILLION;
+    // leftward from w(m) = 10^15: w(n−1) = w(n) × n × 1,000,000 over X
+    let mut weights = vec![PEAK; m as usize + 1];
+    for n in (1..=m as usize).rev() {
+        weights[n - 1] = weights[n] * n as u128 * MILLION / x;
+    }
+    // S(m), then rightward until the level
+    let mut sum: u128 = weights.iter().sum();
+    let mut n = m;
+    loop {
+        let weight = weights[n as usize];
+        if n * MILLION >= x {
+            // t = 1 + (w(n) + n − m) × X over ((n+1) × 1,000,000 − X)
+            let t = 1 + (weight + n - m) * x / ((n + 1) * MILLION - x);
+            if t <= sum * model.tolerance / BILLION {
+                return (weights, n as usize);
+            }
+        }
+        // w(n+1) = w(n) × X over ((n+1) × 1,000,000)
+        let next = weight * x / ((n + 1) * MILLION);
+        weights.push(next);
+        sum += next;
+        n += 1;
+        assert!(n <= 1_024, "the paper promises a level of at most 1,024");
+    }
+}
+
+/// Judges `file`, and where no row of the table holds fills `cells[(i − 1) × R + (r − 1)]` with the moments,
+/// states counted from 1, and returns the level N. Otherwise returns the row, and leaves the cells alone.
+pub fn calculate(file: &[u8], cells: &mut [u64]) -> Result<u64, u8> {
+    let model = read(file, cells.len())?;
+    let states = model.rewards.len();
+    // F, the largest reward rate
+    let largest = *model.rewards.iter().max().expect("at least one state");
+    let (weights, level) = weigh(&model);
+    let total: u128 = weights.iter().sum();
+
+    // u[r][i] is U(n,r) at i; U(n,0) is ONE everywhere. U(0,r) at i is f(i) × U(0,r−1) at i, over F.
+    let mut u = vec![vec![ONE; states]; model.highest + 1];
+    for r in 1..=model.highest {
+        u[r] = (0..states).map(|i| model.rewards[i] * u[r - 1][i] / largest).collect();
+    }
+    // a[r][i] is A, the sum over n of (w(n) × U(n,r) at i over 10^12)
+    let mut a = vec![vec![0; states]; model.highest + 1];
+    for n in 0..=level {
+        if n > 0 {
+            for r in 1..=model.highest {
+                // The new vector is whole before it takes the old one's place; u[r − 1] is already U(n,r−1).
+                let next = (0..states)
+                    .map(|i| {
+                        // V: the sum over j of c(i,j) × U(n−1,r) at j, over E
+                        let products: u128 = model.chain[i].iter().zip(&u[r]).map(|(c, u)| c * u).sum();
+                        let v = products / model.exit;
+                        // W: f(i) × U(n,r−1) at i, over F
+                        let w = model.rewards[i] * u[r - 1][i] / largest;
+                        // U(n,r) at i: (n × V + r × W) over (n + r)
+                        (n as u128 * v + r as u128 * w) / (n + r) as u128
+                    })
+                    .collect();
+                u[r] = next;
+            }
+        }
+        for r in 1..=model.highest {
+            for i in 0..states {
+                a[r][i] += weights[n] * u[r][i] / ONE;
+            }
+        }
+    }
+    // The moment is A × 10^12 over S(N).
+    for i in 0..states {
+        for r in 1..=model.highest {
+            let moment = a[r][i] * ONE / total;
+            cells[i * model.highest + (r - 1)] = u64::try_from(moment).expect("a moment is at most ONE");
+        }
+    }
+    Ok(level as u64)
+}

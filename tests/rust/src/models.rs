@@ -1,0 +1,301 @@
+//! Inputs from a seed: model files, whole and damaged, each with a number of answer cells.
+
+/// A generator of numbers (SplitMix64): the same seed gives the same inputs on every machine.
+pub struct Chance(u64);
+
+impl Chance {
+    pub fn new(seed: u64) -> Chance {
+        Chance(seed)
+    }
+
+    pub fn next(&mut self) -> u64 {
+        self.0 = self.0.wrapping_add(0x9E37_79B9_7F4A_7C15);
+        let mut z = self.0;
+        z = (z ^ (z >> 30)).wrapping_mul(0xBF58_476D_1CE4_E5B9);
+        z = (z ^ (z >> 27)).wrapping_mul(0x94D0_49BB_1331_11EB);
+        z ^ (z >> 31)
+    }
+
+    /// From low to high, both included.
+    pub fn between(&mut self, low: u64, high: u64) -> u64 {
+        low + self.next() % (high - low + 1)
+    }
+
+    pub fn index(&mut self, count: usize) -> usize {
+        self.between(0, count as u64 - 1) as usize
+    }
+
+    pub fn one_in(&mut self, n: u64) -> bool {
+        self.between(1, n) == 1
+    }
+
+    pub fn of<T: Copy>(&mut self, choices: &[T]) -> T {
+        choices[self.index(choices.len())]
+    }
+
+    /// From low to high, small numbers about as often as large ones.
+    pub fn scaled(&mut self, low: u64, high: u64) -> u64 {
+        let bits = self.between(1, 64 - high.leading_zeros() as u64);
+        (low + (self.next() >> (64 - bits))).min(high)
+    }
+}
+
+/// A file's numbers, before they are bytes.
+#[derive(Clone)]
+pub struct Fields {
+    pub version: u8,
+    pub states: u8,
+    pub highest: u8,
+    pub tolerance: u32,
+    pub time: u32,
+    pub rewards: Vec<u32>,
+    /// M × (M − 1) rates, row by row.
+    pub rates: Vec<u32>,
+}
+
+impl Fields {
+    pub fn bytes(&self) -> Vec<u8> {
+        let mut file = vec![0, 0, self.version, self.states, self.highest];
+        file.extend(self.tolerance.to_be_bytes());
+        file.extend(self.time.to_be_bytes());
+        for word in self.rewards.iter().chain(&self.rates) {
+            file.extend(word.to_be_bytes());
+        }
+        relength(&mut file);
+        file
+    }
+
+    /// The rates of row i.
+    fn row(&mut self, i: usize) -> &mut [u32] {
+        let width = usize::from(self.states) - 1;
+        &mut self.rates[i * width..(i + 1) * width]
+    }
+
+    fn largest_row_sum(&self) -> u64 {
+        match usize::from(self.states) - 1 {
+            0 => 0,
+            width => self.rates.chunks(width).map(|row| row.iter().map(|&rate| u64::from(rate)).sum()).max().unwrap_or(0),
+        }
+    }
+}
+
+/// Sets the length field to the bytes that follow it, cut to 16 bits.
+fn relength(file: &mut [u8]) {
+    let length = (file.len().wrapping_sub(2)) as u16;
+    file[..2].copy_from_slice(&length.to_be_bytes());
+}
+
+/// One input: the bytes, and how many cells are lent.
+pub struct Input {
+    pub file: Vec<u8>,
+    pub cells: usize,
+}
+
+/// A model that is accepted. Row sums reach up to `exit` and the time is such that E × T is at most 256,000,000.
+pub fn accepted(chance: &mut Chance, states: u8, highest: u8) -> Fields {
+    let width = usize::from(states) - 1;
+    // E and T: X over its whole range, borders often
+    let exit = match chance.between(0, 9) {
+        0 => 0,
+        1 => 1,
+        2 => 10_000_000,
+        3 => 1_000_000,
+        _ => chance.scaled(1, 10_000_000),
+    };
+    let exit = if width == 0 { 0 } else { exit };
+    let most_time = 256_000_000 / exit.max(1);
+    let time = match chance.between(0, 5) {
+        0 => 1,
+        1 => most_time,
+        2 => (chance.between(1, 6) * 1_000_000 / exit.max(1)).clamp(1, most_time),
+        _ => chance.scaled(1, most_time),
+    };
+    let mut fields = Fields {
+        version: 1,
+        states,
+        highest,
+        tolerance: match chance.between(0, 5) {
+            0 => 1,
+            1 => 100_000_000,
+            _ => chance.scaled(1, 100_000_000) as u32,
+        },
+        time: time as u32,
+        rewards: (0..states).map(|_| reward(chance)).collect(),
+        rates: vec![0; usize::from(states) * width],
+    };
+    if fields.rewards.iter().all(|&f| f == 0) {
+        let i = chance.index(usize::from(states));
+        fields.rewards[i] = chance.scaled(1, 1_000_000) as u32;
+    }
+    // some rows are absorbing, some full to E, the others anything between; one row is full, so that E is reached
+    let full = chance.index(usize::from(states));
+    for i in 0..usize::from(states) {
+        let mut left = match chance.between(0, 4) {
+            _ if i == full => exit,
+            0 => 0,
+            1 => exit,
+            _ => chance.between(0, exit),
+        };
+        if width > 0 {
+            let dense = !chance.one_in(3);
+            for _ in 0..if dense { 3 * width } else { 2 } {
+                let part = chance.between(0, left.min(1 + 2 * exit / width as u64));
+                let j = chance.index(width);
+                fields.row(i)[j] += part as u32;
+                left -= part;
+            }
+            let j = chance.index(width);
+            fields.row(i)[j] += left as u32;
+        }
+    }
+    fields
+}
+
+fn reward(chance: &mut Chance) -> u32 {
+    match chance.between(0, 5) {
+        0 => 0,
+        1 => 1_000_000,
+        2 => 1,
+        _ => chance.scaled(1, 1_000_000) as u32,
+    }
+}
+
+/// A number of cells for a file of `states` and `highest`: about M × R, often at the border of row 13.
+pub fn cells(chance: &mut Chance, states: u8, highest: u8) -> usize {
+    let needed = usize::from(states) * usize::from(highest);
+    match chance.between(0, 9) {
+        0 => 0,
+        1 => needed - 1,
+        2 => chance.index(needed),
+        3 => needed + 1,
+        4 => 512,
+        5 => needed + chance.index(40),
+        _ => needed,
+    }
+}
+
+/// Makes row k of the table hold, where it can, or puts a number on the border that it lets pass. With two damages
+/// several rows hold, and the first must be told.
+pub fn damage(chance: &mut Chance, fields: &mut Fields, row: u64) {
+    let i = chance.index(usize::from(fields.states.clamp(1, 64)));
+    match row {
+        3 => fields.version = chance.of(&[0, 2, 9, 255, chance_byte(fields)]),
+        4 => fields.states = chance.of(&[0, 65, 128, 255]),
+        5 => fields.highest = chance.of(&[0, 9, 128, 255]),
+        6 => fields.states = chance.of(&[1, 2, 3, 63, 64]),
+        7 => fields.tolerance = chance.of(&[0, 100_000_000, 100_000_001, u32::MAX]),
+        8 => fields.time = 0,
+        9 => {
+            if let Some(f) = fields.rewards.get_mut(i) {
+                *f = chance.of(&[1_000_000, 1_000_001, u32::MAX]);
+            }
+        }
+        10 => fields.rewards.fill(0),
+        11 if fields.states > 1 => {
+            let over = chance.of(&[0, 1, 1, 1_000]);
+            if chance.one_in(3) {
+                // words so large that a sum of 32 bits would wrap
+                fields.row(i).fill(chance.of(&[u32::MAX, 1 << 31, 1 << 26]));
+            } else {
+                let row = fields.row(i);
+                let sum: u64 = row.iter().map(|&rate| u64::from(rate)).sum();
+                row[0] = row[0].saturating_add((10_000_000 - sum.min(10_000_000)) as u32 + over);
+                fields.time = chance.of(&[1, 25, 26]);
+            }
+        }
+        12 => {
+            let exit = fields.largest_row_sum().max(1);
+            let border = 256_000_000 / exit;
+            fields.time = chance.of(&[border, border + 1, u64::from(u32::MAX)]).min(u64::from(u32::MAX)) as u32;
+        }
+        _ => {}
+    }
+}
+
+/// A version that is not 1 and depends on the file.
+fn chance_byte(fields: &Fields) -> u8 {
+    (fields.time as u8).max(2)
+}
+
+/// A small input: a whole file, a damaged one, or bytes that are no file. `k` picks the kind in turn.
+pub fn small(chance: &mut Chance, k: usize) -> Input {
+    let states = match chance.between(0, 9) {
+        0 => 1,
+        1..=6 => chance.between(2, 4) as u8,
+        7 | 8 => chance.between(5, 7) as u8,
+        _ => chance.between(8, 12) as u8,
+    };
+    let highest = chance.between(1, 8) as u8;
+    let mut fields = accepted(chance, states, highest);
+    let cells = cells(chance, states, highest);
+    match k % 10 {
+        // whole files
+        0..=3 => Input { file: fields.bytes(), cells },
+        // one damage, and two
+        4 | 5 => {
+            let row = chance.between(3, 12);
+            damage(chance, &mut fields, row);
+            Input { file: fields.bytes(), cells }
+        }
+        6 => {
+            let (row, other) = (chance.between(3, 12), chance.between(3, 12));
+            // the states last: the other damages count on them
+            damage(chance, &mut fields, row.max(other));
+            damage(chance, &mut fields, row.min(other));
+            Input { file: fields.bytes(), cells }
+        }
+        // cut short, or longer, with the length put right or not
+        7 => {
+            let mut file = fields.bytes();
+            if chance.one_in(2) {
+                let left = chance.index(file.len() + 1);
+                file.truncate(left);
+            } else {
+                let more = chance.between(1, 9);
+                file.extend((0..more).map(|_| 0));
+            }
+            if file.len() >= 2 && chance.one_in(2) {
+                relength(&mut file);
+            }
+            Input { file, cells }
+        }
+        // bytes changed anywhere
+        8 => {
+            let mut file = fields.bytes();
+            for _ in 0..chance.between(1, 3) {
+                let at = chance.index(file.len());
+                file[at] = chance.next() as u8;
+            }
+            Input { file, cells }
+        }
+        // no file at all: random bytes, the first few as a file's would be
+        _ => {
+            let length = chance.index(80);
+            let mut file: Vec<u8> = (0..length).map(|_| chance.next() as u8).collect();
+            let known = chance.index(14).min(length);
+            file[..known].copy_from_slice(&fields.bytes()[..known]);
+            if length >= 2 && !chance.one_in(3) {
+                relength(&mut file);
+            }
+            Input { file, cells: chance.index(600) }
+        }
+    }
+}
+
+/// The longest calculation: 64 states, R = 8, q = 256, tolerance 1, dense random rates.
+pub fn heaviest(chance: &mut Chance) -> Fields {
+    let states = 64;
+    let mut fields = Fields {
+        version: 1,
+        states,
+        highest: 8,
+        tolerance: 1,
+        time: 64,
+        rewards: (0..states).map(|_| chance.between(0, 1_000_000) as u32).collect(),
+        rates: (0..64 * 63).map(|_| chance.between(1, 63_000) as u32).collect(),
+    };
+    // the first row is filled to E = 4,000,000, and X = 256,000,000
+    let sum: u32 = fields.row(0).iter().sum();
+    fields.row(0)[0] += 4_000_000 - sum;
+    fields
+}
