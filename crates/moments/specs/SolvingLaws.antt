@@ -66,21 +66,22 @@ module _ (c f : List ℕ) (M E F R X ε : ℕ) (g : Solvable c f M E F R X ε) (
       weighted-max X (level X ε) (λ n. U ch n (k % R + 1) (k / R))
       (λ n h. U-bound ch (g .ready .stochastic) n (k % R + 1) (k / R) (state-of-cell k M R (g .highest-pos) l))
 
-  pub divisible : (a : List ℕ) (S : ℕ) → a ≡ partSums ch w R (level X ε + 1) → S ≡ weightSum X (level X ε) → Divisible a S (M * R)
-  divisible a S ea es =
+  -- any part of the sums may be divided
+  pub divisible : (a : List ℕ) (S count : ℕ) → a ≡ partSums ch w R (level X ε + 1) → S ≡ weightSum X (level X ε) → count ≤ M * R → Divisible a S count
+  divisible a S count ea es part =
       rw (ea, es)
       (record {
-        count-max = count-max M R (g .ready .states-max) (g .highest-max);
+        count-max = omega (arith, part, count-max M R (g .ready .states-max) (g .highest-max));
         total-pos = omega (arith, weightSum-min X (level X ε) (level-mode X ε (g .jumps-max) (g .tolerance-pos)));
         total-max = omega (arith, weightSum-max X (level X ε), short);
-        below = λ k l. rw (sum-is k l) (sum-max k l);
+        below = λ k l. rw (sum-is k (omega (arith, part))) (sum-max k (omega (arith, part)));
       })
 
   -- the quotients of the sums are the cells' means
-  pub means-are : (a : List ℕ) (S : ℕ) (cells : List ℕ) → a ≡ partSums ch w R (level X ε + 1) → S ≡ weightSum X (level X ε) → over (M * R) (λ k. lastQuotient (getD a k 0) S) cells ≡ over (M * R) (cellMean ch X R (level X ε)) cells
+  pub means-are : (a : List ℕ) (S count : ℕ) (cells : List ℕ) → a ≡ partSums ch w R (level X ε + 1) → S ≡ weightSum X (level X ε) → count ≡ M * R → over count (λ k. lastQuotient (getD a k 0) S) cells ≡ over (M * R) (cellMean ch X R (level X ε)) cells
   unfolding cellMean weightedMean
-  means-are a S cells ea es =
-      rw (ea, es)
+  means-are a S count cells ea es all =
+      rw (ea, es, all)
       (over-same (M * R) (λ k. lastQuotient (getD (partSums ch w R (level X ε + 1)) k 0) (weightSum X (level X ε))) (cellMean ch X R (level X ε)) cells
       (λ k l. ap (λ (v : ℕ). lastQuotient v (weightSum X (level X ε))) (sum-is k l)))
 

@@ -16,7 +16,7 @@ pub lent-outcome : (s cells : List ℕ) (o : Outcome) → cells ≡ replicate 51
 lent-outcome s cells o zero e = e ∙ ap (λ (l : List ℕ). outcome s (length l)) zero
 
 -- the sheet of a refusal reads neither the states nor the cells
-pub refused-sheet : (s : List ℕ) (k M R : ℕ) (cells : List ℕ) → ended.Refused k ≡ outcome s 512 → sheetOf (ended.Refused k) M R cells ≡ sheet s
+refused-sheet : (s : List ℕ) (k M R : ℕ) (cells : List ℕ) → ended.Refused k ≡ outcome s 512 → sheetOf (ended.Refused k) M R cells ≡ sheet s
 unfolding sheet sheetOf
 refused-sheet s k M R cells e = ap (λ (o : Outcome). sheetOf o (stateCount s) (highestMoment s) (cellsAfter o s (replicate 512 0))) e
 
@@ -32,3 +32,6 @@ reported {old = old} s p e =
       inside = p .inside;
       bytes = p .bytes ∙ ap (λ (text : List ℕ). written text old) e;
     }
+
+pub refused-reported : {k M R n : ℕ} {cells old new : List ℕ} (s : List ℕ) → Printed (ended.Refused k) M R cells old new n → ended.Refused k ≡ outcome s 512 → Reported s old new n
+refused-reported {k} {M} {R} {cells = cells} s p e = reported s p (refused-sheet s k M R cells e)

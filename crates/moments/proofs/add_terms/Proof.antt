@@ -12,7 +12,6 @@ use Rattle.moments.specs.RunningLaws.{row-of-cell, state-of-cell, count-
 use Rattle.moments.proofs.add_terms.Statement.{statement}
 use Rattle.moments.proofs.add_terms.Tie as tie
 
--- the r and the state of a cell below M × R are in the table
 row-in : (k R : ℕ) → 1 ≤ R → R ≤ 8 → k % R + 1 < 9
 row-in k R low high = omega (arith, row-of-cell k R low)
 
@@ -41,17 +40,23 @@ add-r c = omega (arith, row-in (c .before .loop .k) (c .before .before .args .hi
 div-i : tie.Need-div-i Inv-loop μ-loop
 div-i c = c .before .before .pre .highest-pos
 
+-- the r and the state of cell k are in the table
+in-table : (c : tie.In-loop Inv-loop μ-loop) → (c .before .loop .k % c .before .before .args .highest + 1 < 9) × (c .before .loop .k / c .before .before .args .highest < 64)
+in-table c =
+    let start = c .before .before in
+    (row-in (c .before .loop .k) (start .args .highest) (start .pre .highest-pos) (start .pre .highest-max), state-in (c .before .loop .k) (start .args .states) (start .args .highest) (start .pre .highest-pos) (start .pre .states-max) (c .loop-test .taken))
+
 mul-one-term : tie.Need-mul-one-term Inv-loop μ-loop
-mul-one-term c = omega (arith, row-in (c .before .loop .k) (c .before .before .args .highest) (c .before .before .pre .highest-pos) (c .before .before .pre .highest-max))
+mul-one-term c = omega (arith, in-table c)
 
 mul-one-term-2 : tie.Need-mul-one-term-2 Inv-loop μ-loop
-mul-one-term-2 c = omega (arith, state-in (c .before .loop .k) (c .before .before .args .states) (c .before .before .args .highest) (c .before .before .pre .highest-pos) (c .before .before .pre .states-max) (c .loop-test .taken))
+mul-one-term-2 c = omega (arith, in-table c)
 
 index-1-one-term : tie.Need-index-1-one-term Inv-loop μ-loop
-index-1-one-term c = row-in (c .before .loop .k) (c .before .before .args .highest) (c .before .before .pre .highest-pos) (c .before .before .pre .highest-max)
+index-1-one-term c = omega (arith, in-table c)
 
 index-2-one-term : tie.Need-index-2-one-term Inv-loop μ-loop
-index-2-one-term c = state-in (c .before .loop .k) (c .before .before .args .states) (c .before .before .args .highest) (c .before .before .pre .highest-pos) (c .before .before .pre .states-max) (c .loop-test .taken)
+index-2-one-term c = omega (arith, in-table c)
 
 one-term-requires : tie.Need-one-term-requires Inv-loop μ-loop
 one-term-requires c κs =

@@ -1,9 +1,10 @@
 -- A refused file touches no cell; an accepted one has its cells filled, and demand 3 holds of them.
-use mathlib.Core.Path.{_≡_, refl, sym, _∙_}
+use mathlib.Core.Path.{_≡_, refl, sym, _∙_, ap}
 use lib.ListN.{length}
 use Rattle.definitions.specs.Moment.{cellsAfter}
 use Rattle.definitions.specs.Rules.{judgement}
 use Rattle.definitions.specs.declared.Judgement.the-variants as judged
+use Rattle.definitions.specs.declared.Outcome.the-variants as ended
 use Rattle.laws.specs.Acceptance.{facts}
 use Rattle.laws.specs.MomentLaws.{outcome-refused, outcome-accepted}
 use Rattle.laws.specs.Demand3.{demand3}
@@ -37,7 +38,7 @@ returns-2 c =
     let accepted : judgement s (length cells) ≡ judged.Accepted = sym (c .before .before .before .before .before .before .judge .ensures) ∙ c .before .before .before .before .enum-told .given .1 in
     let n = c .before .before .fill .ensures .0 in
     let after = c .before .before .fill .ensures .1 in
-    (rw n (sym (outcome-accepted s (length cells) accepted)), (after, rw (after, n) (demand3 s cells accepted)))
+    (ap ended.Level n ∙ sym (outcome-accepted s (length cells) accepted), (after, rw (after, n) (demand3 s cells accepted)))
 
 pub calculate-spec : {M : Type 1} → statement M
 calculate-spec =

@@ -1,4 +1,5 @@
 -- The weights, the level, the sums and their quotients, one after the other.
+use native.Mathlib.Omega.{arith}
 use mathlib.Core.Path.{_∙_}
 use Rattle.moments.specs.SolvingLaws.{summable, divisible, means-are}
 use borrow.Author.Needs.{needs}
@@ -23,7 +24,7 @@ write-moments-requires : tie.Need-write-moments-requires
 write-moments-requires c κs =
     let start = c .before .before .before .before .before .before .before .before in
     let cut = c .before .before .before .before .truncate .ensures in
-    (divisible _ _ _ _ _ _ _ _ (start .pre .0) _ (c .before .before .before .before .before .before .weights .ensures) _ _ (rw (cut .is-level) at (c .before .before .accumulate .ensures)) (cut .is-sum), start .pre .1)
+    (divisible _ _ _ _ _ _ _ _ (start .pre .0) _ (c .before .before .before .before .before .before .weights .ensures) _ _ _ (rw (cut .is-level) at (c .before .before .accumulate .ensures)) (cut .is-sum) (omega arith), omega (arith, start .pre .1))
 
 same-length : tie.Need-same-length
 same-length c = search needs
@@ -32,7 +33,7 @@ returns : tie.Need-returns
 returns c =
     let start = c .before .before .before .before .before .before .before .before .before .before .before in
     let cut = c .before .before .before .before .before .before .before .truncate .ensures in
-    (cut .is-level, c .before .before .write-moments .ensures ∙ means-are _ _ _ _ _ _ _ _ (start .pre .0) _ (c .before .before .before .before .before .before .before .before .before .weights .ensures) _ _ _ (rw (cut .is-level) at (c .before .before .before .before .before .accumulate .ensures)) (cut .is-sum))
+    (cut .is-level, c .before .before .write-moments .ensures ∙ means-are _ _ _ _ _ _ _ _ (start .pre .0) _ (c .before .before .before .before .before .before .before .before .before .weights .ensures) _ _ _ _ (rw (cut .is-level) at (c .before .before .before .before .before .accumulate .ensures)) (cut .is-sum) (omega arith))
 
 pub solve-spec : {M : Type 1} → statement M
 solve-spec =

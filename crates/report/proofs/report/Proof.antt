@@ -5,7 +5,7 @@ use lib.ListN.{length}
 use Rattle.definitions.specs.Moment.{outcome}
 use Rattle.laws.specs.Acceptance.{Facts, facts}
 use Rattle.laws.specs.MomentLaws.{level-accepted}
-use Rattle.report.specs.ReportLaws.{lent-outcome, refused-sheet, level-sheet, reported}
+use Rattle.report.specs.ReportLaws.{lent-outcome, level-sheet, reported, refused-reported}
 use borrow.Author.Needs.{needs}
 use Rattle.report.proofs.report.Statement.{statement}
 use Rattle.report.proofs.report.Tie as tie
@@ -54,7 +54,7 @@ write-sheet-requires-2 c κs =
     let R = c .before .before .highest-moment .ensures in
     let kept = c .before .before .before .before .before .before .before .before .calculate .kept .1 .0 in
     let lent = ap length (c .before .before .before .before .before .before .before .before .before .before .no-cells .ensures) in
-    rw (M, R) (record { states = f .good .states-max; highest = f .good .highest-max; filled = omega (arith, f .room, kept, lent) })
+    rw (M, R) (record { states = omega (arith, f .good .states-max, f .good .highest-max); highest = omega (arith, f .good .states-max, f .good .highest-max); filled = omega (arith, f .room, kept, lent) })
 
 returns : tie.Need-returns
 returns c =
@@ -62,7 +62,7 @@ returns c =
     let s = start .args .file .now in
     let zero = c .before .before .before .before .before .before .before .before .before .no-cells .ensures in
     let o = lent-outcome s _ _ zero (c .before .before .before .before .before .before .before .calculate .ensures .0) in
-    reported s (c .write-sheet .ensures) (refused-sheet s _ 0 0 _ (sym (c .before .before .before .before .outcome .given .1) ∙ o))
+    refused-reported s (c .write-sheet .ensures) (sym (c .before .before .before .before .outcome .given .1) ∙ o)
 
 returns-2 : tie.Need-returns-2
 returns-2 c =

@@ -69,6 +69,7 @@ loop-again c =
     let so = turn .inv .2 in
     let row : c .step .result ≡ vector (held start) n (turn .r) =
     step-row (held start) n (turn .r) (ready .jumps-pos) (omega arith) (ready .ready .states-max)
+    {before = getD (start .args .t8) (turn .r) []} {same = getD (turn .next) (turn .r - 1) []}
     (c .step .ensures)
     (row-before start (turn .r) (omega arith))
     (so .done (turn .r - 1) (omega arith)) in
