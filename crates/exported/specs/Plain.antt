@@ -1,13 +1,13 @@
 -- An outcome as one plain number, for callers that have no enum of Rattle's.
 use Prim.Native.Nat.{ℕ, _+_}
 use Rattle.definitions.specs.declared.Outcome.{Outcome}
-use Rattle.definitions.specs.declared.Outcome.the-variants as ended
+use Rattle.definitions.specs.Sums.{pick}
+use Rattle.definitions.specs.Moment.{accepts, numberOf}
 
 -- what refusals start from
 abbrev pub refused : ℕ
 refused = 10000
 
--- the level of an acceptance; 10,000 and the row of a refusal
+-- document 01's number of the outcome, the level of an acceptance or the row of a refusal; with 10,000 more for a refusal
 unfoldable pub plainAnswer : Outcome → ℕ
-plainAnswer (ended.Level n) = n
-plainAnswer (ended.Refused k) = refused + k
+plainAnswer o = pick (accepts o) (numberOf o) (refused + numberOf o)

@@ -26,12 +26,12 @@ answered-level s cells n e =
 
 -- an acceptance goes out as its level, at most 563
 pub level-answer : (s : List ℕ) (cells n : ℕ) → outcome s cells ≡ ended.Level n → (plainAnswer (outcome s cells) ≡ n) × (n ≤ 563)
-unfolding plainAnswer
+unfolding plainAnswer accepts numberOf
 level-answer s cells n e = (ap plainAnswer e, answered-level s cells n e)
 
 -- a refusal goes out as 10,000 and its row
 pub refusal-answer : (s : List ℕ) (cells k : ℕ) → outcome s cells ≡ ended.Refused k → plainAnswer (outcome s cells) ≡ refused + k
-unfolding plainAnswer
+unfolding plainAnswer accepts numberOf
 refusal-answer s cells k e = ap plainAnswer e
 
 -- so an answer below 10,000 is an acceptance, and any other a refusal

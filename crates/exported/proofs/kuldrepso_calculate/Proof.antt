@@ -5,7 +5,7 @@ use mathlib.Core.List.{List}
 use native.Mathlib.Omega.{arith}
 use lib.ListN.{length}
 use Rattle.definitions.specs.declared.Outcome.{Outcome}
-use Rattle.definitions.specs.Moment.{outcome, cellsAfter}
+use Rattle.definitions.specs.Moment.{accepts, cellsAfter, numberOf, outcome}
 use Rattle.definitions.specs.Promise.{Promised}
 use Rattle.exported.specs.Plain.{plainAnswer}
 use borrow.Author.Needs.{needs}
@@ -35,7 +35,7 @@ same-length : tie.Need-same-length
 same-length c = search needs
 
 returns : tie.Need-returns
-unfolding plainAnswer
+unfolding plainAnswer accepts numberOf
 returns c =
     let called = c .before .before .before .before .before .calculate .ensures in
     let level = ap plainAnswer (c .before .outcome .given .1) in
@@ -46,7 +46,7 @@ same-length-2 : tie.Need-same-length-2
 same-length-2 c = search needs
 
 returns-2 : tie.Need-returns-2
-unfolding plainAnswer
+unfolding plainAnswer accepts numberOf
 returns-2 c =
     let called = c .before .before .before .before .before .calculate .ensures in
     let rule = ap plainAnswer (c .before .outcome2 .given .1) in
