@@ -45,11 +45,12 @@ cell m N k = moment m N (k % m .highest + 1) (k / m .highest)
 unfoldable pub modelLevel : Model → ℕ
 modelLevel m = level (jumpMillionths m) (m .tolerance)
 
--- what a call answers of the file s lent with a number of cells: the first row that holds, or the level
+-- what a call answers of the file s, given what the table says of it: the row's number, or the level
 unfoldable pub answered : Judgement → List ℕ → Outcome
 answered judged.Accepted s = ended.Level (modelLevel (modelOf s))
 answered (judged.Refused k) s = ended.Refused k
 
+-- what a call answers of the file s lent with a number of cells
 unfoldable pub outcome : List ℕ → ℕ → Outcome
 outcome s cells = answered (judgement s cells) s
 
