@@ -1,36 +1,21 @@
--- The table of refusals row by row, and what acceptance tells of a file.
+-- What acceptance tells of a file.
 use Prim.Native.Nat.{ℕ, _+_, _*_, _-_, _≤_, _<_}
 use native.Mathlib.Omega.{arith}
 use native.Mathlib.Nat.{mul-pos}
 use mathlib.Core.Path.{_≡_, refl, sym, _∙_}
 use mathlib.Core.Bool.{Bool, true, false, not, _||_}
-use mathlib.Core.List.{List, [], _∷_}
+use mathlib.Core.List.{List}
 use lib.ListN.{length}
 use lib.Dec.{ltb, eqb}
 use borrow.Author.Tests.{ltb-true, ltb-false, eqb-true, eqb-false, not-false}
-use Rattle.definitions.specs.declared.Judgement.the-variants as judged
 use Rattle.definitions.specs.Sums.{largest, anyAbove}
 use Rattle.definitions.specs.File.{lengthField, version, stateCount, highestMoment, toleranceField, timeField, rewardField}
 use Rattle.definitions.specs.Chain.{Model, modelOf, rowSum, uniformRate, maxReward, jumpMillionths, chainOf}
-use Rattle.definitions.specs.Rules.{rows, firstHeld, judgement}
+use Rattle.definitions.specs.Rules.{accepted, framing, quantities, jumps, room, rows, judgement}
 use Rattle.laws.specs.SumLaws.{any-largest}
+use Rattle.laws.specs.RuleLaws.{NoneHold, none-hold}
 use Rattle.laws.specs.ChainLaws.{rate-pos, row-sums-to-rate, reward-le-largest}
 use Rattle.laws.specs.VectorLaws.{Stochastic}
-
--- no row of a list holds
-abbrev pub NoneHold : List (ℕ × Bool) → Type 0
-NoneHold [] = Unit {0}
-NoneHold (row ∷ later) = (row .1 ≡ false) × NoneHold later
-
--- of an accepted file no row holds
-pub none-hold : (table : List (ℕ × Bool)) → firstHeld table ≡ judged.Accepted → NoneHold table
-unfolding firstHeld
-none-hold [] h = tt
-none-hold (row ∷ later) h = (rejected (row .1) refl, none-hold later (rw (rejected (row .1) refl) at h))
-  where
-    rejected : (b : Bool) → row .1 ≡ b → row .1 ≡ false
-    rejected true e = absurd (let w = rw e at h in let z : _≡_ {A = ℕ} 0 1 = cc in omega arith)
-    rejected false e = e
 
 -- neither of two tests holds
 neither : (a b : Bool) → (a || b) ≡ false → (a ≡ false) × (b ≡ false)
@@ -81,13 +66,13 @@ some-above : (k n : ℕ) (f : ℕ → ℕ) → not (anyAbove k n f) ≡ false �
 some-above k n f h = ltb-true k (largest n f) (sym (any-largest k n f) ∙ not-false (anyAbove k n f) h)
 
 -- the rows 4 to 12, as facts of the model
-module _ (s : List ℕ) (cells : ℕ) (accepted : judgement s cells ≡ judged.Accepted) where
+module _ (s : List ℕ) (cells : ℕ) (passed : judgement s cells ≡ accepted tt) where
   row : NoneHold (rows s cells)
   unfolding judgement
-  row = none-hold (rows s cells) accepted
+  row = none-hold (rows s cells) tt tt passed
 
   pub good : Good (modelOf s)
-  unfolding rows maxReward uniformRate jumpMillionths
+  unfolding framing quantities jumps room rows maxReward uniformRate jumpMillionths
   good =
       let row4 = row .1 .1 .1 in
       let row7 = row4 .1 .1 .1 in
@@ -117,7 +102,7 @@ module _ (s : List ℕ) (cells : ℕ) (accepted : judgement s cells ≡ judged.A
       }
 
   pub facts : Facts s cells
-  unfolding rows
+  unfolding framing quantities jumps room rows
   facts =
       let row2 = row .1 in
       let row6 = row2 .1 .1 .1 .1 in
