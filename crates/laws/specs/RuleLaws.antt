@@ -54,3 +54,8 @@ none-hold (row ∷ later) a b h = (rejected (row .1) refl, none-hold later a b (
     rejected : (held : Bool) → row .1 ≡ held → row .1 ≡ false
     rejected true e = absurd (let w = rw e at h in let z : _≡_ {A = ℕ} 0 1 = cc in omega arith)
     rejected false e = e
+
+-- and none of either part
+pub none-in-parts : (t u : Rows) → NoneHold (t ++ u) → NoneHold t × NoneHold u
+none-in-parts [] u h = (tt, h)
+none-in-parts (row ∷ later) u h = let rest = none-in-parts later u (h .1) in ((h .0, rest .0), rest .1)
