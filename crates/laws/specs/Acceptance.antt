@@ -4,16 +4,16 @@ use native.Mathlib.Omega.{arith}
 use native.Mathlib.Nat.{mul-pos}
 use mathlib.Core.Path.{_≡_, refl, sym, _∙_}
 use mathlib.Core.Bool.{Bool, true, false, not, _||_}
-use mathlib.Core.List.{List, _++_}
+use mathlib.Core.List.{List, _++_, append-assoc}
 use lib.ListN.{length}
 use lib.Dec.{ltb, eqb}
 use borrow.Author.Tests.{ltb-true, ltb-false, eqb-true, eqb-false, not-false}
 use Rattle.definitions.specs.Sums.{largest, anyAbove}
 use Rattle.definitions.specs.File.{lengthField, version, stateCount, highestMoment, toleranceField, timeField, rewardField}
 use Rattle.definitions.specs.Chain.{Model, modelOf, rowSum, uniformRate, maxReward, jumpMillionths, chainOf}
-use Rattle.definitions.specs.Rules.{accepted, Rows, framing, quantities, jumps, room, rows, judgement}
+use Rattle.definitions.specs.Rules.{accepted, Rows, framing, quantities, jumps, room, rows, firstHeld, judgedBy, judgement}
 use Rattle.laws.specs.SumLaws.{any-largest}
-use Rattle.laws.specs.RuleLaws.{NoneHold, none-hold, none-in-parts}
+use Rattle.laws.specs.RuleLaws.{andThen, in-parts, NoneHold, none-hold, accepted-value, none-in-parts}
 use Rattle.laws.specs.ChainLaws.{rate-pos, row-sums-to-rate, reward-le-largest}
 use Rattle.laws.specs.VectorLaws.{Stochastic}
 
@@ -116,6 +116,28 @@ good-by s f row row12 =
       jumps-pos = mul-pos (rate-pos (modelOf s)) (omega (arith, time));
       jumps-max = ltb-false 256000000 (uniformRate (modelOf s) * timeField s) (row12 .0);
     }
+
+-- the rows 1 to 11, which every call that reads a file shares: what their acceptance with E tells
+pub record Rateable (s : List ℕ) (E : ℕ) : Type 0 where
+  pub framed : Framed s
+  pub rate : E ≡ uniformRate (modelOf s)
+  pub rate-max : E ≤ 10000000
+
+pub rateable : (s : List ℕ) (E : ℕ) → firstHeld (framing s ++ quantities s) (uniformRate (modelOf s)) ≡ accepted E → Rateable s E
+unfolding quantities uniformRate
+rateable s E h =
+    let none = none-in-parts (framing s) (quantities s) (none-hold (framing s ++ quantities s) (uniformRate (modelOf s)) E h) in
+    let rate : uniformRate (modelOf s) ≡ E = accepted-value (framing s ++ quantities s) (uniformRate (modelOf s)) E h in
+    record {
+      framed = framed-by s (none .0);
+      rate = sym rate;
+      rate-max = omega (arith, none-above 10000000 (stateCount s) (rowSum (modelOf s)) (none .1 .1 .1 .1 .1 .0));
+    }
+
+-- the whole table: those rows, then the jumps and the room
+pub judgement-in-parts : (s : List ℕ) (cells : ℕ) → judgement s cells ≡ andThen (firstHeld (framing s ++ quantities s) (uniformRate (modelOf s))) (judgedBy (jumps (uniformRate (modelOf s)) (timeField s) ++ room (stateCount s * highestMoment s) cells))
+unfolding judgement rows
+judgement-in-parts s cells = rw append-assoc (in-parts (framing s ++ quantities s) _ (uniformRate (modelOf s)) tt)
 
 -- all of them: what acceptance tells
 pub facts : (s : List ℕ) (cells : ℕ) → judgement s cells ≡ accepted tt → Facts s cells

@@ -2,8 +2,10 @@
 use Prim.Native.Nat.{ℕ}
 use native.Mathlib.Omega.{arith}
 use mathlib.Core.Path.{_≡_, refl, ap, _∙_}
-use mathlib.Core.Bool.{Bool, true, false}
+use mathlib.Core.Bool.{Bool, true, false, not}
 use mathlib.Core.List.{[], _∷_, _++_, append-nil}
+use lib.Dec.{eqb}
+use borrow.Author.Tests.{eq-eqb, ne-eqb}
 use Rattle.definitions.specs.Sums.{pick}
 use Rattle.definitions.specs.Rules.{Answer, accepted, refused, Rows, firstHeld}
 
@@ -19,6 +21,18 @@ row-stops k b later a e = rw e refl
 pub row-passes : {A : Type 0} (k : ℕ) (b : Bool) (later : Rows) (a : A) → b ≡ false → firstHeld ((k, b) ∷ later) a ≡ firstHeld later a
 unfolding firstHeld
 row-passes k b later a e = rw e refl
+
+-- past all rows the file is accepted
+pub none-left : {A : Type 0} (a : A) → firstHeld [] a ≡ accepted a
+unfolding firstHeld
+none-left a = refl
+
+-- the test of two numbers that are to be equal
+pub differ : (a b : ℕ) → (a ≡ b → ⊥) → not (eqb a b) ≡ true
+differ a b h = ap not (ne-eqb a b h)
+
+pub agree : (a b : ℕ) → a ≡ b → not (eqb a b) ≡ false
+agree a b h = ap not (eq-eqb a b h)
 
 -- the first answer where it refuses, else the second
 abbrev pub andThen : {A B : Type 0} → Answer A → Answer B → Answer B
@@ -55,7 +69,13 @@ none-hold (row ∷ later) a b h = (rejected (row .1) refl, none-hold later a b (
     rejected true e = absurd (let w = rw e at h in let z : _≡_ {A = ℕ} 0 1 = cc in omega arith)
     rejected false e = e
 
--- and none of either part
+-- and what it is accepted with is the value given
+pub accepted-value : {A : Type 0} (t : Rows) (a b : A) → firstHeld t a ≡ accepted b → a ≡ b
+unfolding firstHeld
+accepted-value [] a b h = cc
+accepted-value (row ∷ later) a b h = accepted-value later a b (rw (none-hold (row ∷ later) a b h .0) at h)
+
+-- none of two parts is none of either
 pub none-in-parts : (t u : Rows) → NoneHold (t ++ u) → NoneHold t × NoneHold u
 none-in-parts [] u h = (tt, h)
 none-in-parts (row ∷ later) u h = let rest = none-in-parts later u (h .1) in ((h .0, rest .0), rest .1)

@@ -2,5 +2,6 @@
 pub mod Rated
 pub mod Framed
 pub mod Filling
+pub mod Limits
 pub mod Big
 pub mod Rows
