@@ -54,7 +54,7 @@ loop-again c =
     let args = start .args in (
       omega arith,
       over-store (turn .i) (u start) (zeros 64) (turn .next) (c .mix .result) (omega (arith, length-zeros 64)) (turn .inv .1)
-      (c .mix .ensures ∙ ap₂ (mix (args .n) (args .r)) (c .before .before .before .row-mean .ensures (now (args .rewards))) (c .before .reward-share .ensures)),
+          (c .mix .ensures ∙ ap₂ (mix (args .n) (args .r)) (c .before .before .before .row-mean .ensures (now (args .rewards))) (c .before .reward-share .ensures)),
     )
 
 returns : tie.Need-returns Inv-loop μ-loop
