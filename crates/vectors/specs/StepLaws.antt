@@ -25,8 +25,8 @@ module _ (ch : Chain) (states-max : ch .states ≤ 64) where
   getD-vector n r i l = getD-padded (ch .states) (U ch n r) i states-max l
 
   -- U(n,r) ≤ ONE
-  pub vector-ticks : (n r : ℕ) → Stochastic ch → Ticks (ch .states) (vector ch n r)
-  vector-ticks n r s = record { below = λ j l. omega (arith, getD-vector n r j l, U-bound ch s n r j l) }
+  pub vector-ticks : (n r : ℕ) {v : List ℕ} → v ≡ vector ch n r → Stochastic ch → Ticks (ch .states) v
+  vector-ticks n r e s = record { below = λ j l. rw e (omega (arith, getD-vector n r j l, U-bound ch s n r j l)) }
 
   -- U(n,0)
   pub vector-zero : (n : ℕ) → padded (ch .states) (λ i. ONE) ≡ vector ch n 0

@@ -57,8 +57,8 @@ step-requires c κs =
     record {
       ready = ready;
       indices = record { jumps-max = omega arith; moment-max = omega arith; some = omega arith };
-      before-ticks = rw (row-before (c .before .before)) (vector-ticks (held start) (omega arith) (n - 1) r (ready .stochastic));
-      same-ticks = rw (row-same (c .before .before)) (vector-ticks (held start) (omega arith) n (r - 1) (ready .stochastic));
+      before-ticks = vector-ticks (held start) (omega arith) (n - 1) r (row-before (c .before .before)) (ready .stochastic);
+      same-ticks = vector-ticks (held start) (omega arith) n (r - 1) (row-same (c .before .before)) (ready .stochastic);
     }
 
 loop-again : tie.Need-loop-again Inv-loop μ-loop

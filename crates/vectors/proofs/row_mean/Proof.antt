@@ -1,5 +1,5 @@
 -- `vectors::row_mean` meets its contract. The invariant: the total is the sum over the states passed. Assumes nothing.
-use mathlib.Core.Path.{_≡_, ap}
+use mathlib.Core.Path.{_≡_, ap, _∙_}
 use mathlib.Core.List.{List}
 use Prim.Native.Nat.{ℕ, _+_, _*_, _-_, _/_, _≤_, _<_, _^_}
 use denote.Ref.{now}
@@ -46,7 +46,7 @@ returns c = λ f.
     let args = c .before .before .before .args in
     let row = product (now (args .chain)) (now (args .v)) (args .i) in
     let all : c .before .before .loop .j ≡ args .sizes .states = omega arith in
-    ap (λ (n : ℕ). n / args .sizes .rate) (omega (arith, ap (λ (n : ℕ). sum n row) all))
+    omega (arith, ap (λ (n : ℕ). n / args .sizes .rate) (c .before .before .loop .inv .0 ∙ ap (λ (n : ℕ). sum n row) all))
 
 pub row-mean-spec : {M : Type 1} → statement M
 row-mean-spec =
