@@ -5,9 +5,9 @@ use Rattle.definitions.specs.Sums.{pick}
 use Rattle.definitions.specs.Moment.{accepts, numberOf}
 
 -- what refusals start from
-abbrev pub refused : ℕ
-refused = 10000
+abbrev pub refusalsFrom : ℕ
+refusalsFrom = 1000000
 
--- document 01's number of the outcome, the level of an acceptance or the row of a refusal; with 10,000 more for a refusal
+-- document 01's number of the outcome, the level of an acceptance or the row of a refusal; with refusalsFrom more for a refusal
 unfoldable pub plainAnswer : Outcome → ℕ
-plainAnswer o = pick (accepts o) (numberOf o) (refused + numberOf o)
+plainAnswer o = pick (accepts o) (numberOf o) (refusalsFrom + numberOf o)

@@ -12,7 +12,7 @@ use Rattle.definitions.specs.Moment.{modelLevel, outcome, accepts, numberOf}
 use Rattle.laws.specs.Acceptance.{facts}
 use Rattle.laws.specs.LevelLaws.{level-max}
 use Rattle.laws.specs.MomentLaws.{level-accepted, outcome-accepted}
-use Rattle.kuldrepso.specs.Plain.{refused, plainAnswer}
+use Rattle.kuldrepso.specs.Plain.{refusalsFrom, plainAnswer}
 
 -- the level of an accepting call is at most 563
 pub answered-level : (s : List ℕ) (cells n : ℕ) → outcome s cells ≡ ended.Level n → n ≤ 563
@@ -29,22 +29,22 @@ pub level-answer : (s : List ℕ) (cells n : ℕ) → outcome s cells ≡ ended.
 unfolding plainAnswer accepts numberOf
 level-answer s cells n e = (ap plainAnswer e, answered-level s cells n e)
 
--- a refusal goes out as 10,000 and its row
-pub refusal-answer : (s : List ℕ) (cells k : ℕ) → outcome s cells ≡ ended.Refused k → plainAnswer (outcome s cells) ≡ refused + k
+-- a refusal goes out as refusalsFrom and its row
+pub refusal-answer : (s : List ℕ) (cells k : ℕ) → outcome s cells ≡ ended.Refused k → plainAnswer (outcome s cells) ≡ refusalsFrom + k
 unfolding plainAnswer accepts numberOf
 refusal-answer s cells k e = ap plainAnswer e
 
--- so an answer below 10,000 is an acceptance, and any other a refusal
-pub answer-accepts : (s : List ℕ) (cells : ℕ) → accepts (outcome s cells) ≡ ltb (plainAnswer (outcome s cells)) refused
+-- so an answer below refusalsFrom is an acceptance, and any other a refusal
+pub answer-accepts : (s : List ℕ) (cells : ℕ) → accepts (outcome s cells) ≡ ltb (plainAnswer (outcome s cells)) refusalsFrom
 unfolding accepts
 answer-accepts s cells = by-case (outcome s cells) refl
   where
-    by-case : (o : Outcome) → outcome s cells ≡ o → accepts (outcome s cells) ≡ ltb (plainAnswer (outcome s cells)) refused
+    by-case : (o : Outcome) → outcome s cells ≡ o → accepts (outcome s cells) ≡ ltb (plainAnswer (outcome s cells)) refusalsFrom
     by-case (ended.Level n) e =
         let level = level-answer s cells n e in
-        ap accepts e ∙ sym (lt-ltb (plainAnswer (outcome s cells)) refused (omega arith))
+        ap accepts e ∙ sym (lt-ltb (plainAnswer (outcome s cells)) refusalsFrom (omega arith))
     by-case (ended.Refused k) e =
-        ap accepts e ∙ sym (le-ltb (plainAnswer (outcome s cells)) refused (omega (arith, refusal-answer s cells k e)))
+        ap accepts e ∙ sym (le-ltb (plainAnswer (outcome s cells)) refusalsFrom (omega (arith, refusal-answer s cells k e)))
 
 -- and two calls that answer the same number have the same outcome
 pub answer-tells : (s : List ℕ) (cells : ℕ) (s' : List ℕ) (cells' : ℕ) → plainAnswer (outcome s cells) ≡ plainAnswer (outcome s' cells') → outcome s cells ≡ outcome s' cells'

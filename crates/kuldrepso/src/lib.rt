@@ -8,10 +8,10 @@ ghost use Rattle.definitions.specs.Promise.{Promised};
 ghost use Rattle.kuldrepso.specs.Plain.{plainAnswer};
 use definitions::Outcome;
 
-// Refusal k goes out as this and k. No level is near it: the greatest is 563.
-const REFUSED: u64 = 10_000;
+// Refusal k goes out as this and k. No level is near it: the greatest is at most 563.
+const REFUSED: u64 = 1_000_000;
 
-// moments::calculate, with the level N for an acceptance and 10,000 + k for refusal k. A slice comes
+// moments::calculate, with the level N for an acceptance and REFUSED + k for refusal k. A slice comes
 // as a pointer and a length.
 #[no_mangle]
 pub extern "C" fn kuldrepso_calculate(file: &[u8], cells: &mut [u64]) -> u64
