@@ -37,7 +37,7 @@ And the arithmetic tactic takes a product of two unknowns as one more unknown, s
 
 # --- How a refusal is read ------------------------------------------------------------------------------------
 
-COUNTEREXAMPLE = re.compile(r"does not follow from what it read\. All of that holds, and the (?:goal|part) fails, at ")
+COUNTEREXAMPLE = re.compile(r"does not follow from what it read\. All of that holds, and the (?:goal|part) fails[.,]")
 DIFFER = re.compile(r"""the\ two\ types\ (?:(?:differ\ only|first\ differ)\ where\ one\ has|are)\s+`([^`]*)`\s+\(expected\)
                         (?:,\ (?:right\ after\s+`[^`]*`|at\ the\ start))?,?\s+and(?:\ the\ other\ has)?\s+`([^`]*)`\s+\(found\)""", re.X)
 # Names that Rattle makes for places in the code, and what antt left open: these differ where the shape does.
@@ -107,6 +107,9 @@ SAMPLES = [
     ("T/proofs/f/Proof.antt:9:1: error: `start`: computed as far as they go, the two types differ only where one has `R.f.Lts.Else1` (expected) and the other has `R.f.Lts.After-g` (found)\n",
      ("f", "start", "")),
     ("T/proofs/f/Proof.antt:9:1: error: `add-if`: `tie.Need-add-if`: module `R.f.Tie` has no `Need-add-if` that can be named from here\n", ("f", "add-if", "")),
+    ("T/proofs/f/Proof.antt:9:1: error: `below`: `omega`: the goal does not follow from what it read. All of that holds, and the goal fails. It read 0 hypotheses\n",
+     ("f", "below", "counterexample")),
+    ("T/proofs/f/Proof.antt:9:1: error: `below`: `omega` stopped at a bound of its own: the goal has more than 64 parts.\n", ("f", "below", "")),
     ("T/proofs/f/Proof.antt:9:1: error: `returns`: `search`: no proof of `a ≡ b` was found. Every way was tried\n", ("f", "returns", "")),
     ("T/specs/Law.antt:9:1: error: expected `×` after the Σ binder, found `:`\n", ("Law", "", "")),
     ("T/src/lib.rt:9:1: error[unknown-name]: cannot find `h` in this scope\n", ("lib", "", "")),
