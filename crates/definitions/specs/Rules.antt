@@ -61,9 +61,13 @@ unfoldable pub firstHeld : {A : Type 0} → Rows → A → Answer A
 firstHeld [] a = accepted a
 firstHeld (row ∷ later) a = pick (row .1) (refused (row .0)) (firstHeld later a)
 
+-- what a table says: accepted, or the first row that holds
+abbrev pub judgedBy : Rows → Answer (Unit {0})
+judgedBy table = firstHeld table tt
+
 -- what the table says of the file s lent with a number of answer cells
 unfoldable pub judgement : List ℕ → ℕ → Answer (Unit {0})
-judgement s cells = firstHeld (rows s cells) tt
+judgement s cells = judgedBy (rows s cells)
 
 -- document 01's answer for each case of a judgement
 abbrev pub verdict : Judgement → Answer (Unit {0})
