@@ -132,7 +132,7 @@ pub fn calculate(file: &[u8], cells: &mut [u64]) -> Outcome
     ensures cells { λ o. ⌜ now (cells .exit) ≡ cellsAfter (answerOf o) (now (file .entry)) (now (cells .entry)) ⌝ }
     ensures promise { λ o. ⌜ Promised (answerOf o) (now (file .entry)) (now (cells .exit)) ⌝ }
 {
-    let judgement = reader::judge(file, cells.len());
+    let judgement = refusals::judge(file, cells.len());
     match judgement {
         Judgement::Refused(k) => Outcome::Refused(k),
         Judgement::Accepted => Outcome::Level(fill(file, cells)),
