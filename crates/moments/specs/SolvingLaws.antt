@@ -17,7 +17,7 @@ use Rattle.laws.specs.ListLaws.{over-same}
 use Rattle.laws.specs.ChainLaws.{SameChain, arrays-same}
 use Rattle.laws.specs.VectorLaws.{U-bound, U-same}
 use Rattle.laws.specs.WeightLaws.{weight-max, weightSum-min, weightSum-max}
-use Rattle.laws.specs.LevelLaws.{level-max, level-mode}
+use Rattle.laws.specs.LevelLaws.{LEVELS, level-max, level-mode}
 use Rattle.laws.specs.MomentLaws.{weighted-max}
 use Rattle.laws.specs.Acceptance.{Good, stochastic}
 use Rattle.poisson.specs.CallerLaws.{weight-at}
@@ -33,7 +33,7 @@ mean-same X N u v h =
     ap (λ (a : ℕ). lastQuotient a (weightSum X N))
     (sum-same (suc N) (λ n. term (weight X n) (u n)) (λ n. term (weight X n) (v n)) (λ n l. ap (term (weight X n)) (h n (omega arith))))
 
-module _ (z : Sizes) (c f : List ℕ) (X ε : ℕ) (g : Solvable z c f X ε) (w : List ℕ) (ew : w ≡ firsts 564 (weight X)) where
+module _ (z : Sizes) (c f : List ℕ) (X ε : ℕ) (g : Solvable z c f X ε) (w : List ℕ) (ew : w ≡ firsts LEVELS (weight X)) where
   abbrev ch : Chain
   ch = arrays z c f
 
@@ -43,7 +43,7 @@ module _ (z : Sizes) (c f : List ℕ) (X ε : ℕ) (g : Solvable z c f X ε) (w 
   abbrev R : ℕ
   R = z .highest
 
-  short : level X ε ≤ 563
+  short : level X ε < LEVELS
   short = level-max X ε (g .jumps-max) (g .tolerance-pos)
 
   weight-in : (n : ℕ) → n ≤ level X ε → getD w n 0 ≡ weight X n

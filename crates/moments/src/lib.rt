@@ -61,7 +61,7 @@ fn accumulate(
     sizes: Sizes,
     chain: &[u64; 4096],
     rewards: &[u64; 64],
-    weights: &[u64; 564],
+    weights: &[u64; poisson::LEVELS],
     level: u64,
 ) -> [u64; 512]
     requires { ⌜ Summable sizes (now chain) (now rewards) (now weights) level ⌝ }

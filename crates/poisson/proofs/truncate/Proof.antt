@@ -8,8 +8,7 @@ use lib.ListN.{getD}
 use Rattle.definitions.specs.Weights.{weight, weightSum}
 use Rattle.definitions.specs.Level.{level}
 use Rattle.laws.specs.WeightLaws.{weight-max, weightSum-max, weightSum-next, weightSum-zero}
-use Rattle.laws.specs.LevelLaws.{level-max}
-use Rattle.poisson.specs.Stages.{LEVELS}
+use Rattle.laws.specs.LevelLaws.{LEVELS, level-max}
 use Rattle.poisson.specs.CallerLaws.{weight-at}
 use Rattle.poisson.proofs.Search.{not-yet, this-one}
 use Rattle.poisson.proofs.truncate.Statement.{statement}
@@ -22,7 +21,7 @@ abbrev μ-loop : tie.MeasureT-loop
 μ-loop weights x tolerance n₀ sum₀ n sum = level x tolerance - n
 
 -- the level is an index of the array
-last : (c : tie.Start Inv-loop μ-loop) → level (c .args .x) (c .args .tolerance) ≤ 563
+last : (c : tie.Start Inv-loop μ-loop) → level (c .args .x) (c .args .tolerance) < LEVELS
 last c = level-max (c .args .x) (c .args .tolerance) (c .pre .2) (c .pre .3)
 
 loop-holds : tie.Need-loop-holds Inv-loop μ-loop

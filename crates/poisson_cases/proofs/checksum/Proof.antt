@@ -2,7 +2,7 @@
 use Prim.Native.Nat.{_-_, _≤_, _<_}
 use native.Mathlib.Omega.{arith}
 use borrow.Author.Needs.{needs}
-use Rattle.poisson.specs.Stages.{LEVELS}
+use Rattle.laws.specs.LevelLaws.{LEVELS}
 use Rattle.poisson_cases.proofs.checksum.Statement.{statement}
 use Rattle.poisson_cases.proofs.checksum.Tie as tie
 
