@@ -18,12 +18,12 @@ use Rattle.laws.specs.ChainLaws.{SameChain, arrays-same}
 use Rattle.laws.specs.VectorLaws.{U-bound, U-same}
 use Rattle.laws.specs.WeightLaws.{weight-max, weightSum-min, weightSum-max}
 use Rattle.laws.specs.LevelLaws.{LEVELS, level-max, level-mode}
-use Rattle.laws.specs.MomentLaws.{weighted-max}
+use Rattle.laws.specs.MomentLaws.{state-of-cell, count-max, weighted-max}
 use Rattle.laws.specs.Acceptance.{Good, stochastic}
 use Rattle.poisson.specs.CallerLaws.{weight-at}
 use Rattle.vectors.specs.ModelLaws.{held, model-ready}
 use Rattle.moments.specs.Running.{partSum, partSums, Summable, Divisible}
-use Rattle.moments.specs.RunningLaws.{state-of-cell, count-max, sums-at}
+use Rattle.moments.specs.RunningLaws.{sums-at}
 use Rattle.moments.specs.Solving.{cellMean, Solvable, ReadAs}
 
 -- equal values up to N have equal weighted means
@@ -70,7 +70,7 @@ module _ (z : Sizes) (c f : List ℕ) (X ε : ℕ) (g : Solvable z c f X ε) (w 
   sum-max : (k : ℕ) → k < M * R → weighted X (λ n. U ch n (k % R + 1) (k / R)) (level X ε) ≤ weightSum X (level X ε)
   sum-max k l =
       weighted-max X (level X ε) (λ n. U ch n (k % R + 1) (k / R))
-      (λ n h. U-bound ch (g .ready .stochastic) n (k % R + 1) (k / R) (state-of-cell k M R (g .highest-pos) l))
+      (λ n h. U-bound ch (g .ready .stochastic) n (k % R + 1) (k / R) (state-of-cell k M R l))
 
   -- any part of the sums may be divided
   pub divisible : (a : List ℕ) (S count : ℕ) → a ≡ partSums ch w R (level X ε + 1) → S ≡ weightSum X (level X ε) → count ≤ M * R → Divisible a S count
@@ -112,7 +112,7 @@ module _ (m : Model) (g : Good m) where
   unfolding cellMean cell moment
   means-of-model cells =
       over-same (m .states * m .highest) (cellMean (held m) (jumpMillionths m) (m .highest) (modelLevel m)) (cell m (modelLevel m)) cells
-      (λ k l. mean-same (jumpMillionths m) (modelLevel m) _ _ (λ n h. U-same (held m) (chainOf m) same n (k % m .highest + 1) (k / m .highest) (state-of-cell k (m .states) (m .highest) (g .highest-pos) l)))
+      (λ k l. mean-same (jumpMillionths m) (modelLevel m) _ _ (λ n h. U-same (held m) (chainOf m) same n (k % m .highest + 1) (k / m .highest) (state-of-cell k (m .states) (m .highest) l)))
 
 -- what was read of a good model can be solved, and its solution is the model's level and moments
 module _ (m : Model) (g : Good m) (z : Sizes) (c f : List ℕ) (X ε : ℕ) (e : ReadAs m z c f X ε) where
