@@ -1,22 +1,18 @@
--- What `write_sheet` asks and leaves, each named. Assumes nothing.
+-- What the contracts name: a line's text, and what `write_sheet` asks and leaves. Assumes nothing.
 use mathlib.Core.Path.{_≡_}
 use mathlib.Core.List.{List, [], _∷_, _++_}
 use Prim.Native.Nat.{ℕ, _+_, _*_, _≤_}
 use lib.ListN.{length}
 use Rattle.definitions.specs.declared.Outcome.{Outcome}
 use Rattle.definitions.specs.declared.Outcome.the-variants as ended
-use Rattle.definitions.specs.Sheet.{decimal, figure, sheetOf, written}
+use Rattle.definitions.specs.Sheet.{places, decimal, figure, sheetOf, written}
 
--- one line's text, of a state, an r and a moment's ticks
+-- one line's text, of a state, an r and a moment's ticks, and how wide it is
 abbrev pub line : ℕ → ℕ → ℕ → List ℕ
-line state r ticks = decimal state ++ 32 ∷ decimal r ++ 32 ∷ figure ticks ++ 10 ∷ []
+line state r ticks = (decimal state ++ 32 ∷ []) ++ (decimal r ++ 32 ∷ []) ++ figure ticks ++ 10 ∷ []
 
--- what the writer of the lines asks: at most 20 bytes a line, two digits for a state and one for r
-pub record Lines (at R : ℕ) (cells : List ℕ) (count space : ℕ) : Type 0 where
-  pub room : at + count * 20 ≤ space
-  pub highest : R ≤ 8
-  pub states : count ≤ 64 * R
-  pub filled : count ≤ length cells
+abbrev pub lineWidth : ℕ → ℕ → ℕ
+lineWidth state r = places state 19 + 1 + (places r 19 + 1) + 14 + 1
 
 -- an accepted file's states, highest moment and cells
 pub record Shape (M R : ℕ) (cells : List ℕ) : Type 0 where
