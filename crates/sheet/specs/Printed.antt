@@ -1,11 +1,11 @@
--- What the contracts name: a line's text, and what `write_sheet` asks and leaves. Assumes nothing.
+-- What the contracts name: a line's text, what is asked of an outcome, and what a printed text leaves. Assumes nothing.
 use mathlib.Core.Path.{_≡_}
 use mathlib.Core.List.{List, [], _∷_, _++_}
 use Prim.Native.Nat.{ℕ, _+_, _*_, _≤_}
 use lib.ListN.{length}
 use Rattle.definitions.specs.declared.Outcome.{Outcome}
 use Rattle.definitions.specs.declared.Outcome.the-variants as ended
-use Rattle.definitions.specs.Sheet.{places, decimal, figure, sheetOf, written}
+use Rattle.definitions.specs.Sheet.{places, decimal, figure, written}
 
 -- one line's text, of a state, an r and a moment's ticks, and how wide it is
 abbrev pub line : ℕ → ℕ → ℕ → List ℕ
@@ -25,9 +25,8 @@ abbrev pub Printable : Outcome → ℕ → ℕ → List ℕ → Type 0
 Printable (ended.Level N) M R cells = Shape M R cells
 Printable (ended.Refused k) M R cells = Unit
 
--- the sheet stands at the buffer's start, the later bytes are as they were, and count is the sheet's length
-pub record Printed (o : Outcome) (M R : ℕ) (cells old new : List ℕ) (count : ℕ) : Type 0 where
-  pub counted : count ≡ length (sheetOf o M R cells)
-  pub fits : count ≤ 16384
+-- the text stands at the buffer's start, the later bytes are as they were, and count is the text's length
+pub record Printed (text old new : List ℕ) (count : ℕ) : Type 0 where
+  pub counted : count ≡ length text
   pub inside : count ≤ length new
-  pub bytes : new ≡ written (sheetOf o M R cells) old
+  pub bytes : new ≡ written text old

@@ -5,8 +5,9 @@ use Prim.Native.Nat.{ℕ, suc, _+_, _≤_}
 use native.Mathlib.Nat.{suc-add, add-suc, add-zero, zero-add}
 use native.Mathlib.Omega.{arith}
 use lib.ListN.{length, set, length-append}
-use lib.Seq.{sets, sets-eq}
+use lib.Seq.{sets, sets-eq, length-sets}
 use Rattle.definitions.specs.Sheet.{written}
+use Rattle.sheet.specs.Printed.{Printed}
 
 -- new is old with the text, of at most so many bytes, stored byte by byte from the place at on, and next is the place after it
 pub record Puts (text : List ℕ) (most at : ℕ) (old new : List ℕ) (next : ℕ) : Type 0 where
@@ -35,7 +36,12 @@ then {t} {u} {at = at} {old = old} p q =
 pub wider : {t : List ℕ} {m n at next : ℕ} {old new : List ℕ} → m ≤ n → Puts t m at old new next → Puts t n at old new next
 wider h p = record { after = p .after; within = omega arith; bytes = p .bytes }
 
--- from the start of a buffer that has room for it: the text, and the later bytes as they were
-pub from-start : {text old new : List ℕ} {most next : ℕ} → most ≤ length old → Puts text most 0 old new next → new ≡ written text old
+-- a text put at the start of a buffer that has room for it is printed there
+pub printed : {text old new : List ℕ} {most next : ℕ} → most ≤ length old → Puts text most 0 old new next → Printed text old new next
 unfolding written
-from-start {text} {old} h p = p .bytes ∙ sets-eq text old 0 (omega arith) ∙ rw zero-add
+printed {text} {old} h p =
+    record {
+      counted = omega arith;
+      inside = rw (p .bytes, length-sets) (omega arith);
+      bytes = p .bytes ∙ sets-eq text old 0 (omega arith) ∙ rw zero-add;
+    }

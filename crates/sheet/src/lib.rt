@@ -7,7 +7,7 @@ ghost use mathlib.Core.Path.{_≡_};
 ghost use mathlib.Core.List.{[], _∷_, _++_};
 ghost use Prim.Native.Nat.{_+_, _*_, _%_, _<_, _≤_};
 ghost use lib.ListN.{length};
-ghost use Rattle.definitions.specs.Sheet.{digits, places, decimal, figure, momentLines, wordLine};
+ghost use Rattle.definitions.specs.Sheet.{digits, places, decimal, figure, momentLines, wordLine, sheetOf};
 ghost use Rattle.sheet.specs.Puts.{Puts};
 ghost use Rattle.sheet.specs.Printed.{line, lineWidth, Shape, Printable, Printed};
 
@@ -132,7 +132,7 @@ pub fn write_sheet(
     out: &mut [u8; 16384],
 ) -> usize
     requires { ⌜ Printable outcome states highest (now cells) ⌝ }
-    ensures { λ n. ⌜ Printed outcome states highest (now (cells .entry)) (now (out .entry)) (now (out .exit)) n ⌝ }
+    ensures { λ n. ⌜ Printed (sheetOf outcome states highest (now (cells .entry))) (now (out .entry)) (now (out .exit)) n ⌝ }
 {
     match outcome {
         Outcome::Level(n) => {
