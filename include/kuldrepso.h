@@ -1,6 +1,6 @@
 /* Moments of the accumulated reward of a repairable system, and their truncation level: document 01's
- * calculation, for C. `rt staticlib exported` writes the library, target/staticlib/libexported.a (x86-64);
- * it needs nothing but memcpy and memset. Its contract is proved: crates/exported/src/lib.rt. */
+ * calculation, for C. `rt staticlib kuldrepso` writes the library, target/staticlib/libkuldrepso.a (x86-64);
+ * it needs nothing but memcpy and memset. Its contract is proved: crates/kuldrepso/src/lib.rt. */
 #ifndef KULDREPSO_H
 #define KULDREPSO_H
 
@@ -11,8 +11,14 @@
 extern "C" {
 #endif
 
-/* An answer below this is a level, and the file was accepted; any other is this and the number of a refusal. */
-#define KULDREPSO_REFUSED UINT64_C(10000)
+/* The version of this header, and of the library beside it. MINOR rises where calls or macros are added and a program
+ * that was written before stays right. MAJOR rises, and MINOR starts again at 0, where such a program has to be looked
+ * through: a call takes other parameters or answers something else, or a macro has another value. */
+#define KULDREPSO_VERSION_MAJOR 1
+#define KULDREPSO_VERSION_MINOR 0
+
+/* An answer below this is an acceptance; any other is this and the number of a refusal. */
+#define KULDREPSO_REFUSED UINT64_C(1000000)
 
 /* Cells that are enough for every file: 64 states, 8 moments each. */
 #define KULDREPSO_MOST_CELLS 512
@@ -26,10 +32,11 @@ extern "C" {
 /* Judges the model file in file[0] .. file[file_length - 1] and calculates its moments.
  *
  * Answers
- *   N           the level, from 1 to 563, where no row of document 01's table "What stops a file" holds. Then
- *               cells[(i - 1) * R + (r - 1)] holds moment r of state i in ticks, i from 1 to M and r from 1 to R,
- *               where M and R are bytes 3 and 4 of the file. Every cell from M * R on is as it was.
- *   10000 + k   where row k, from 1 to 13, is the first that holds. Every cell is as it was.
+ *   N                       the level, from 1 to 563, where no row of document 01's table "What stops a file" holds.
+ *                           Then cells[(i - 1) * R + (r - 1)] holds moment r of state i in ticks, i from 1 to M and
+ *                           r from 1 to R, where M and R are bytes 3 and 4 of the file. Every cell from M * R on is
+ *                           as it was.
+ *   KULDREPSO_REFUSED + k   where row k, from 1 to 13, is the first that holds. Every cell is as it was.
  *
  * Each slice is a pointer and a count of its elements, not of bytes. Neither pointer may be null, also where its
  * count is 0 (any suitably aligned address does then); the two must not overlap; file_length and 8 * cell_count are

@@ -1,6 +1,6 @@
 //! Times four calculations side by side, in one process. `bench/run` builds and runs this.
 //!
-//!     library   the proved call, from libexported.a
+//!     library   the proved call, from libkuldrepso.a
 //!     same      the same algorithm in Rust, with the same helper
 //!     wide      the same algorithm in Rust, with u128 in the helper's place
 //!     plain     the independent version of the comparison: u128 throughout, vectors on the heap

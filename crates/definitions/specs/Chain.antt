@@ -4,17 +4,18 @@ use mathlib.Core.List.{List}
 use mathlib.Core.Bool.{_&&_}
 use lib.ListN.{getD}
 use lib.Dec.{eqb, ltb}
+use Rattle.definitions.specs.declared.Sizes.{Sizes}
 use Rattle.definitions.specs.Sums.{sum, largest, firsts, pick}
 use Rattle.definitions.specs.File.{stateCount, highestMoment, toleranceField, timeField, rewardField, rateField}
 
--- M, R, ε in billionths, T in hours, f, and the rates between two different states
+-- M, R, ε in billionths, T in hours, f, and the transition rates between two different states
 pub record Model : Type 0 where
   pub states : ℕ
   pub highest : ℕ
   pub tolerance : ℕ
   pub time : ℕ
   pub reward : ℕ → ℕ
-  pub rate : ℕ → ℕ → ℕ
+  pub transition : ℕ → ℕ → ℕ
 
 -- the model that a file's bytes state
 abbrev pub modelOf : List ℕ → Model
@@ -25,12 +26,12 @@ modelOf s =
       tolerance = toleranceField s;
       time = timeField s;
       reward = rewardField s;
-      rate = rateField s;
+      transition = rateField s;
     }
 
 -- the rate from i to another state j, and 0 at j = i, which the file does not hold
 unfoldable pub jumpRate : Model → ℕ → ℕ → ℕ
-jumpRate m i j = pick (eqb j i) 0 (m .rate i j)
+jumpRate m i j = pick (eqb j i) 0 (m .transition i j)
 
 -- row i's sum
 unfoldable pub rowSum : Model → ℕ → ℕ
@@ -42,7 +43,7 @@ uniformRate m = max 1 (largest (m .states) (rowSum m))
 
 -- c(i,j): the rate from i to j; on the diagonal E less row i's sum
 unfoldable pub c : Model → ℕ → ℕ → ℕ
-c m i j = pick (eqb j i) (uniformRate m - rowSum m i) (m .rate i j)
+c m i j = pick (eqb j i) (uniformRate m - rowSum m i) (m .transition i j)
 
 -- F, the largest reward rate
 unfoldable pub maxReward : Model → ℕ
@@ -72,13 +73,17 @@ padded M v = firsts 64 (λ i. pick (ltb i M) (v i) 0)
 unfoldable pub flat : Chain → List ℕ
 flat ch = firsts 4096 (λ k. pick (ltb (k / 64) (ch .states) && ltb (k % 64) (ch .states)) (ch .entry (k / 64) (k % 64)) 0)
 
--- the chain that stands in arrays: f for 64 states, and c as 64 rows of 64 entries
-abbrev pub arrays : ℕ → ℕ → List ℕ → List ℕ → ℕ → Chain
-arrays M E c f F =
+-- the chain that stands in arrays, with M, E and F among its sizes: c as 64 rows of 64 entries, and f for 64 states
+abbrev pub arrays : Sizes → List ℕ → List ℕ → Chain
+arrays sizes c f =
     record {
-      states = M;
-      rate = E;
+      states = sizes .states;
+      rate = sizes .rate;
       entry = λ i j. getD c (i * 64 + j) 0;
       reward = λ i. getD f i 0;
-      largestReward = F;
+      largestReward = sizes .largest;
     }
+
+-- M, R, E and F of a model
+abbrev pub sizesOf : Model → Sizes
+sizesOf m = record { states = m .states; highest = m .highest; rate = uniformRate m; largest = maxReward m }

@@ -7,16 +7,14 @@ use mathlib.Core.Path.{_≡_, refl}
 use native.Mathlib.Omega.{arith}
 use lib.ListN.{length, set, replicate}
 use lib.Dec.{lit<}
-use Rattle.definitions.specs.declared.Judgement.the-variants as judged
-use Rattle.definitions.specs.declared.Outcome.the-variants as ended
 use Rattle.definitions.specs.Sums.{sum, largest, anyAbove, firsts, over, pick}
 use Rattle.definitions.specs.Bytes.{big}
 use Rattle.definitions.specs.Chain.{Model, modelOf, Chain, jumpRate, rowSum, uniformRate, c, maxReward, jumpMillionths, chainOf}
-use Rattle.definitions.specs.Rules.{rows, firstHeld, judgement}
+use Rattle.definitions.specs.Rules.{accepted, refused, framing, quantities, jumps, room, rows, firstHeld, judgement}
 use Rattle.definitions.specs.Vectors.{ONE, rowMean, rewardShare, mix, nextEntry, firstVectors, nextVectors, U}
 use Rattle.definitions.specs.Weights.{mode, rightward, leftward, weight, weightSum}
 use Rattle.definitions.specs.Level.{tailBound, allowance, passes?, firstFrom, level}
-use Rattle.definitions.specs.Moment.{term, weighted, lastQuotient, weightedMean, moment, cell, modelLevel, answered, outcome, cellsAfter}
+use Rattle.definitions.specs.Moment.{term, weighted, lastQuotient, weightedMean, moment, cell, modelLevel, outcome, cellsAfter}
 use Rattle.definitions.specs.Fraction.{Same, ratio, total, power}
 use Rattle.definitions.specs.Average.{exactMean, exactShare, exactMix, exactFirst, exactNext, exactU, factorial, exactWeight, averageOf, average}
 use Rattle.definitions.specs.Sheet.{digit, digits, places, decimal, figure, momentLine, momentLines, levelLine, sheetOf, sheet, printedSheet}
@@ -53,8 +51,8 @@ pub data Entry : Type 0 where
 -- what an entry says of the definitions
 abbrev pub Holds : Entry → Type 0
 Holds (calculated s N moments) =
-    (outcome s (length moments) ≡ ended.Level N) × (cellsAfter (ended.Level N) s (replicate (length moments) 0) ≡ moments)
-Holds (stopped s k) = judgement s 512 ≡ judged.Refused k
+    (outcome s (length moments) ≡ accepted N) × (cellsAfter (accepted N) s (replicate (length moments) 0) ≡ moments)
+Holds (stopped s k) = judgement s 512 ≡ refused k
 Holds (numbers paper ours) = ours ≡ paper
 
 abbrev pub AllHold : List Entry → Type 0
@@ -77,7 +75,7 @@ starred =
     ∷ []
 
 pub hand-checked : AllHold starred
-unfolding sum largest anyAbove firsts over big jumpRate rowSum uniformRate c maxReward jumpMillionths rows firstHeld judgement rowMean rewardShare mix nextEntry firstVectors nextVectors U mode rightward leftward weight weightSum tailBound allowance passes? firstFrom level term weighted lastQuotient weightedMean moment cell modelLevel answered outcome cellsAfter
+unfolding sum largest anyAbove firsts over big jumpRate rowSum uniformRate c maxReward jumpMillionths framing quantities jumps room rows firstHeld judgement rowMean rewardShare mix nextEntry firstVectors nextVectors U mode rightward leftward weight weightSum tailBound allowance passes? firstFrom level term weighted lastQuotient weightedMean moment cell modelLevel outcome cellsAfter
 hand-checked = ((refl, refl), ((refl, refl), (refl, (refl, (refl, (refl, (refl, (refl, (refl, (refl, tt))))))))))
 
 -- B's F is above 0
@@ -109,5 +107,5 @@ sheetB =
     ∷ []
 
 pub sheet-of-B : printedSheet fileB ≡ sheetB
-unfolding sum largest anyAbove firsts over big jumpRate rowSum uniformRate c maxReward jumpMillionths rows firstHeld judgement rowMean rewardShare mix nextEntry firstVectors nextVectors U mode rightward leftward weight weightSum tailBound allowance passes? firstFrom level term weighted lastQuotient weightedMean moment cell modelLevel answered outcome cellsAfter digit digits places decimal figure momentLine momentLines levelLine sheetOf sheet printedSheet
+unfolding sum largest anyAbove firsts over big jumpRate rowSum uniformRate c maxReward jumpMillionths framing quantities jumps room rows firstHeld judgement rowMean rewardShare mix nextEntry firstVectors nextVectors U mode rightward leftward weight weightSum tailBound allowance passes? firstFrom level term weighted lastQuotient weightedMean moment cell modelLevel outcome cellsAfter digit digits places decimal figure momentLine momentLines levelLine sheetOf sheet printedSheet
 sheet-of-B = refl

@@ -1,14 +1,11 @@
 -- "Moment": A, the last quotient, the cells after a call, and its outcome.
 use Prim.Native.Nat.{ℕ, suc, _+_, _*_, _-_, _/_, _%_}
 use mathlib.Core.List.{List}
-use mathlib.Core.Bool.{Bool, true, false}
-use Rattle.definitions.specs.declared.Judgement.{Judgement}
-use Rattle.definitions.specs.declared.Judgement.the-variants as judged
 use Rattle.definitions.specs.declared.Outcome.{Outcome}
 use Rattle.definitions.specs.declared.Outcome.the-variants as ended
 use Rattle.definitions.specs.Sums.{sum, over}
 use Rattle.definitions.specs.Chain.{Model, modelOf, chainOf, jumpMillionths}
-use Rattle.definitions.specs.Rules.{judgement}
+use Rattle.definitions.specs.Rules.{Answer, accepted, refused, rows, firstHeld}
 use Rattle.definitions.specs.Vectors.{ONE, U}
 use Rattle.definitions.specs.Weights.{weight, weightSum}
 use Rattle.definitions.specs.Level.{level}
@@ -45,26 +42,16 @@ cell m N k = moment m N (k % m .highest + 1) (k / m .highest)
 unfoldable pub modelLevel : Model → ℕ
 modelLevel m = level (jumpMillionths m) (m .tolerance)
 
--- what a call answers of the file s, given what the table says of it: the row's number, or the level
-unfoldable pub answered : Judgement → List ℕ → Outcome
-answered judged.Accepted s = ended.Level (modelLevel (modelOf s))
-answered (judged.Refused k) s = ended.Refused k
+-- what a call answers of the file s lent with a number of cells: the first row that holds, or the level
+unfoldable pub outcome : List ℕ → ℕ → Answer ℕ
+outcome s cells = firstHeld (rows s cells) (modelLevel (modelOf s))
 
--- what a call answers of the file s lent with a number of cells
-unfoldable pub outcome : List ℕ → ℕ → Outcome
-outcome s cells = answered (judgement s cells) s
+-- document 01's answer for each case of an outcome: accepted with the level N, or refused with the number of a row
+abbrev pub answerOf : Outcome → Answer ℕ
+answerOf (ended.Level n) = accepted n
+answerOf (ended.Refused k) = refused k
 
--- document 01's number for each case of an outcome: the level of an acceptance, the row of a refusal
-unfoldable pub numberOf : Outcome → ℕ
-numberOf (ended.Level n) = n
-numberOf (ended.Refused k) = k
-
--- whether an outcome is an acceptance; no refusal is one, whatever its number
-unfoldable pub accepts : Outcome → Bool
-accepts (ended.Level n) = true
-accepts (ended.Refused k) = false
-
--- document 01's values for each case of an outcome: all answer cells after the call, from those before it
-unfoldable pub cellsAfter : Outcome → List ℕ → List ℕ → List ℕ
-cellsAfter (ended.Level n) s cells = over (modelOf s .states * modelOf s .highest) (cell (modelOf s) n) cells
-cellsAfter (ended.Refused k) s cells = cells
+-- document 01's values for each answer: all answer cells after the call, from those before it
+unfoldable pub cellsAfter : Answer ℕ → List ℕ → List ℕ → List ℕ
+cellsAfter (accepted n) s cells = over (modelOf s .states * modelOf s .highest) (cell (modelOf s) n) cells
+cellsAfter (refused k) s cells = cells

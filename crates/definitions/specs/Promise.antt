@@ -3,9 +3,8 @@ use Prim.Native.Nat.{ℕ, _+_, _*_, _≤_, _<_}
 use mathlib.Core.List.{List}
 use lib.ListN.{getD}
 use lib.Dec.{lit<}
-use Rattle.definitions.specs.declared.Outcome.{Outcome}
-use Rattle.definitions.specs.declared.Outcome.the-variants as ended
 use Rattle.definitions.specs.Chain.{Model, modelOf, maxReward}
+use Rattle.definitions.specs.Rules.{Answer, accepted, refused}
 use Rattle.definitions.specs.Vectors.{ONE}
 use Rattle.definitions.specs.Level.{BILLION}
 use Rattle.definitions.specs.Moment.{cellOf}
@@ -51,7 +50,7 @@ pub record Promise (s : List ℕ) (N : ℕ) (cells : List ℕ) : Type 0 where
   pub rewarded : 0 < maxReward (modelOf s)
   pub close : (i r : ℕ) → i < modelOf s .states → 1 ≤ r → r ≤ modelOf s .highest → Close (modelOf s) rewarded N r i (printed s cells i r)
 
--- demand 3 of an outcome: an acceptance with level N promises it, a refusal prints no moment
-abbrev pub Promised : Outcome → List ℕ → List ℕ → Type 0
-Promised (ended.Level N) s cells = Promise s N cells
-Promised (ended.Refused k) s cells = Unit {0}
+-- demand 3 of an answer: an acceptance with level N promises it, a refusal prints no moment
+abbrev pub Promised : Answer ℕ → List ℕ → List ℕ → Type 0
+Promised (accepted N) s cells = Promise s N cells
+Promised (refused k) s cells = Unit {0}

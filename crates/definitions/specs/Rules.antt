@@ -1,43 +1,75 @@
--- "What stops a file": the table's rows in its order, and what each answer means.
+-- "What stops a file": the table's rows in its order, in parts that the tables of several calls share, and what a table answers.
 use Prim.Native.Nat.{ℕ, _+_, _*_, _-_}
-use mathlib.Core.List.{List, [], _∷_}
-use mathlib.Core.Bool.{Bool, true, false, not, _||_}
+use mathlib.Core.List.{List, [], _∷_, _++_}
+use mathlib.Core.Bool.{Bool, not, _||_}
 use lib.ListN.{length}
 use lib.Dec.{ltb, eqb}
 use Rattle.definitions.specs.declared.Judgement.{Judgement}
 use Rattle.definitions.specs.declared.Judgement.the-variants as judged
-use Rattle.definitions.specs.Sums.{anyAbove}
+use Rattle.definitions.specs.Sums.{anyAbove, pick}
 use Rattle.definitions.specs.File.{lengthField, version, stateCount, highestMoment, toleranceField, timeField, rewardField}
 use Rattle.definitions.specs.Chain.{modelOf, rowSum, uniformRate}
 
--- the rows 1 to 13: each number with the condition that it is held by, for the file s and a number of answer cells
-unfoldable pub rows : List ℕ → ℕ → List (ℕ × Bool)
-rows s cells =
+-- the answer of a call: accepted, with what the call then returns, or refused, with the number of a row. No refusal is an acceptance, whatever its number.
+pub data Answer (A : Type 0) : Type 0 where
+  accepted : A → Answer A
+  refused : ℕ → Answer A
+
+-- rows of a table: each number with the condition that it is held by
+abbrev pub Rows : Type 0
+Rows = List (ℕ × Bool)
+
+-- rows 1 to 6, the framing: length, version, M and R
+unfoldable pub framing : List ℕ → Rows
+framing s =
     (1, ltb (length s) 13)
     ∷ (2, not (eqb (lengthField s) (length s - 2)))
     ∷ (3, not (eqb (version s) 1))
     ∷ (4, eqb (stateCount s) 0 || ltb 64 (stateCount s))
     ∷ (5, eqb (highestMoment s) 0 || ltb 8 (highestMoment s))
     ∷ (6, not (eqb (lengthField s) (4 * stateCount s * stateCount s + 11)))
-    ∷ (7, eqb (toleranceField s) 0 || ltb 100000000 (toleranceField s))
+    ∷ []
+
+-- rows 7 to 11, the quantities: tolerance, time, rewards and rates
+unfoldable pub quantities : List ℕ → Rows
+quantities s =
+    (7, eqb (toleranceField s) 0 || ltb 100000000 (toleranceField s))
     ∷ (8, eqb (timeField s) 0)
     ∷ (9, anyAbove 1000000 (stateCount s) (rewardField s))
     ∷ (10, not (anyAbove 0 (stateCount s) (rewardField s)))
     ∷ (11, anyAbove 10000000 (stateCount s) (rowSum (modelOf s)))
-    ∷ (12, ltb 256000000 (uniformRate (modelOf s) * timeField s))
-    ∷ (13, ltb cells (stateCount s * highestMoment s))
     ∷ []
 
--- a where the test holds, b where it does not
-abbrev pub pickJudgement : Bool → Judgement → Judgement → Judgement
-pickJudgement true a b = a
-pickJudgement false a b = b
+-- row 12, the jumps: E × T, for a time T
+unfoldable pub jumps : ℕ → ℕ → Rows
+jumps E T = (12, ltb 256000000 (E * T)) ∷ []
 
--- the first row that holds, as its number; accepted where none does
-unfoldable pub firstHeld : List (ℕ × Bool) → Judgement
-firstHeld [] = judged.Accepted
-firstHeld (row ∷ later) = pickJudgement (row .1) (judged.Refused (row .0)) (firstHeld later)
+-- row 13, the room: fewer lent than needed
+unfoldable pub room : ℕ → ℕ → Rows
+room needed lent = (13, ltb lent needed) ∷ []
+
+-- the table of a call that takes the file s, lent with a number of answer cells, and fills its moments
+unfoldable pub rows : List ℕ → ℕ → Rows
+rows s cells =
+    framing s
+    ++ quantities s
+    ++ jumps (uniformRate (modelOf s)) (timeField s)
+    ++ room (stateCount s * highestMoment s) cells
+
+-- the first row that holds, as its number; where none does, accepted with a
+unfoldable pub firstHeld : {A : Type 0} → Rows → A → Answer A
+firstHeld [] a = accepted a
+firstHeld (row ∷ later) a = pick (row .1) (refused (row .0)) (firstHeld later a)
+
+-- what a table says: accepted, or the first row that holds
+abbrev pub judgedBy : Rows → Answer (Unit {0})
+judgedBy table = firstHeld table tt
 
 -- what the table says of the file s lent with a number of answer cells
-unfoldable pub judgement : List ℕ → ℕ → Judgement
-judgement s cells = firstHeld (rows s cells)
+unfoldable pub judgement : List ℕ → ℕ → Answer (Unit {0})
+judgement s cells = judgedBy (rows s cells)
+
+-- document 01's answer for each case of a judgement
+abbrev pub verdict : Judgement → Answer (Unit {0})
+verdict judged.Accepted = accepted tt
+verdict (judged.Refused k) = refused k

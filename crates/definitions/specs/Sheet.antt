@@ -3,10 +3,9 @@ use Prim.Native.Nat.{ℕ, zero, suc, _+_, _*_, _/_, _%_, _^_}
 use mathlib.Core.List.{List, [], _∷_, _++_}
 use lib.ListN.{length, take, drop, getD, replicate}
 use lib.Dec.{ltb}
-use Rattle.definitions.specs.declared.Outcome.{Outcome}
-use Rattle.definitions.specs.declared.Outcome.the-variants as ended
 use Rattle.definitions.specs.Sums.{pick}
 use Rattle.definitions.specs.File.{stateCount, highestMoment}
+use Rattle.definitions.specs.Rules.{Answer, accepted, refused}
 use Rattle.definitions.specs.Moment.{outcome, cellsAfter}
 
 -- the byte of the decimal digit of x that counts 10^p
@@ -52,10 +51,10 @@ levelLine N = wordLine (108 ∷ 101 ∷ 118 ∷ 101 ∷ 108 ∷ 32 ∷ []) N
 unfoldable pub refusedLine : ℕ → List ℕ
 refusedLine k = wordLine (114 ∷ 101 ∷ 102 ∷ 117 ∷ 115 ∷ 101 ∷ 100 ∷ 32 ∷ []) k
 
--- the sheet of an outcome, for M states, the highest moment R and the cells after the call
-unfoldable pub sheetOf : Outcome → ℕ → ℕ → List ℕ → List ℕ
-sheetOf (ended.Level N) M R cells = levelLine N ++ momentLines R (M * R) cells
-sheetOf (ended.Refused k) M R cells = refusedLine k
+-- the sheet of an answer, for M states, the highest moment R and the cells after the call
+unfoldable pub sheetOf : Answer ℕ → ℕ → ℕ → List ℕ → List ℕ
+sheetOf (accepted N) M R cells = levelLine N ++ momentLines R (M * R) cells
+sheetOf (refused k) M R cells = refusedLine k
 
 -- the program lends this many cells, and reads at most this many bytes
 abbrev pub lentCells : ℕ

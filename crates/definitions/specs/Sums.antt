@@ -21,15 +21,15 @@ anyAbove k zero f = false
 anyAbove k (suc n) f = anyAbove k n f || ltb k (f n)
 
 -- the list f 0, …, f (n − 1)
-unfoldable pub firsts : ℕ → (ℕ → ℕ) → List ℕ
+unfoldable pub firsts : {A : Type 0} → ℕ → (ℕ → A) → List A
 firsts zero f = []
 firsts (suc n) f = firsts n f ++ (f n ∷ [])
 
 -- the list l with its first n entries replaced by f 0, …, f (n − 1); the rest as in l
-unfoldable pub over : ℕ → (ℕ → ℕ) → List ℕ → List ℕ
+unfoldable pub over : {A : Type 0} → ℕ → (ℕ → A) → List A → List A
 over n f l = firsts n f ++ drop n l
 
 -- a where the test holds, b where it does not
-abbrev pub pick : Bool → ℕ → ℕ → ℕ
+abbrev pub pick : {A : Type 0} → Bool → A → A → A
 pick true a b = a
 pick false a b = b

@@ -1,6 +1,10 @@
-// The answers that the calculator's functions share. What each case means is defined in specs/Rules.antt.
+// The answers and the sizes that the calculator's functions share. Document 01's answer for each case of an enum is defined in specs/:
+// of a Judgement in Rules.antt, of an Outcome in Moment.antt. The chain that stands in arrays of given Sizes is defined in Chain.antt.
 
-// What the table of refusals says of a file: accepted, or the number of its first row that holds.
+// ONE: 10^12 ticks.
+pub const ONE: u64 = 1_000_000_000_000;
+
+// What a table of refusals says of a file: accepted, or the number of its first row that holds.
 pub enum Judgement {
     Accepted,
     Refused(u8),
@@ -10,4 +14,13 @@ pub enum Judgement {
 pub enum Outcome {
     Level(u64),
     Refused(u8),
+}
+
+// The numbers of a chain that stands in arrays: M, the number of states; R, the highest moment; E, the uniformization rate; F, the
+// largest reward rate.
+pub struct Sizes {
+    pub states: usize,
+    pub highest: usize,
+    pub rate: u64,
+    pub largest: u64,
 }

@@ -1,36 +1,21 @@
--- The table of refusals row by row, and what acceptance tells of a file.
+-- What acceptance tells of a file.
 use Prim.Native.Nat.{ℕ, _+_, _*_, _-_, _≤_, _<_}
 use native.Mathlib.Omega.{arith}
 use native.Mathlib.Nat.{mul-pos}
 use mathlib.Core.Path.{_≡_, refl, sym, _∙_}
 use mathlib.Core.Bool.{Bool, true, false, not, _||_}
-use mathlib.Core.List.{List, [], _∷_}
+use mathlib.Core.List.{List, _++_, append-assoc}
 use lib.ListN.{length}
 use lib.Dec.{ltb, eqb}
 use borrow.Author.Tests.{ltb-true, ltb-false, eqb-true, eqb-false, not-false}
-use Rattle.definitions.specs.declared.Judgement.the-variants as judged
 use Rattle.definitions.specs.Sums.{largest, anyAbove}
 use Rattle.definitions.specs.File.{lengthField, version, stateCount, highestMoment, toleranceField, timeField, rewardField}
 use Rattle.definitions.specs.Chain.{Model, modelOf, rowSum, uniformRate, maxReward, jumpMillionths, chainOf}
-use Rattle.definitions.specs.Rules.{rows, firstHeld, judgement}
+use Rattle.definitions.specs.Rules.{accepted, Rows, framing, quantities, jumps, room, rows, firstHeld, judgedBy, judgement}
 use Rattle.laws.specs.SumLaws.{any-largest}
+use Rattle.laws.specs.RuleLaws.{andThen, in-parts, NoneHold, none-hold, accepted-value, none-in-parts}
 use Rattle.laws.specs.ChainLaws.{rate-pos, row-sums-to-rate, reward-le-largest}
 use Rattle.laws.specs.VectorLaws.{Stochastic}
-
--- no row of a list holds
-abbrev pub NoneHold : List (ℕ × Bool) → Type 0
-NoneHold [] = Unit {0}
-NoneHold (row ∷ later) = (row .1 ≡ false) × NoneHold later
-
--- of an accepted file no row holds
-pub none-hold : (table : List (ℕ × Bool)) → firstHeld table ≡ judged.Accepted → NoneHold table
-unfolding firstHeld
-none-hold [] h = tt
-none-hold (row ∷ later) h = (rejected (row .1) refl, none-hold later (rw (rejected (row .1) refl) at h))
-  where
-    rejected : (b : Bool) → row .1 ≡ b → row .1 ≡ false
-    rejected true e = absurd (let w = rw e at h in let z : _≡_ {A = ℕ} 0 1 = cc in omega arith)
-    rejected false e = e
 
 -- neither of two tests holds
 neither : (a b : Bool) → (a || b) ≡ false → (a ≡ false) × (b ≡ false)
@@ -46,6 +31,25 @@ in-range x k h =
     let nonzero : x ≡ 0 → ⊥ = eqb-false x 0 (both .0) in
     let small : x ≤ k = ltb-false k x (both .1) in
     (omega (arith, nonzero), small)
+
+-- two numbers that do not differ
+held-equal : (x y : ℕ) → not (eqb x y) ≡ false → x ≡ y
+held-equal x y h = eqb-true x y (not-false (eqb x y) h)
+
+-- a test of a largest entry, read off
+none-above : (k n : ℕ) (f : ℕ → ℕ) → anyAbove k n f ≡ false → largest n f ≤ k
+none-above k n f h = ltb-false k (largest n f) (sym (any-largest k n f) ∙ h)
+
+some-above : (k n : ℕ) (f : ℕ → ℕ) → not (anyAbove k n f) ≡ false → k < largest n f
+some-above k n f h = ltb-true k (largest n f) (sym (any-largest k n f) ∙ not-false (anyAbove k n f) h)
+
+-- what the framing tells of a file: M is 1 to 64, R is 1 to 8, and M rewards and M rows of M − 1 rates stand after the header's 13 bytes
+pub record Framed (s : List ℕ) : Type 0 where
+  pub states-min : 1 ≤ stateCount s
+  pub states-max : stateCount s ≤ 64
+  pub highest-min : 1 ≤ highestMoment s
+  pub highest-max : highestMoment s ≤ 8
+  pub size : length s ≡ 4 * stateCount s * stateCount s + 13
 
 -- what the steps may assume of a model
 pub record Good (m : Model) : Type 0 where
@@ -64,72 +68,92 @@ pub record Good (m : Model) : Type 0 where
   pub jumps-pos : 1 ≤ jumpMillionths m
   pub jumps-max : jumpMillionths m ≤ 256000000
 
--- what acceptance tells of a file lent with a number of cells: every row of the table, read the other way
+-- what acceptance tells of a file lent with a number of cells
 pub record Facts (s : List ℕ) (cells : ℕ) : Type 0 where
-  pub header : 13 ≤ length s
-  pub framed : lengthField s ≡ length s - 2
-  pub versioned : version s ≡ 1
-  pub sized : lengthField s ≡ 4 * stateCount s * stateCount s + 11
+  pub framed : Framed s
   pub good : Good (modelOf s)
   pub room : stateCount s * highestMoment s ≤ cells
 
--- a test of a largest entry, read off
-none-above : (k n : ℕ) (f : ℕ → ℕ) → anyAbove k n f ≡ false → largest n f ≤ k
-none-above k n f h = ltb-false k (largest n f) (sym (any-largest k n f) ∙ h)
+-- the rows 1 to 6, read the other way
+pub framed-by : (s : List ℕ) → NoneHold (framing s) → Framed s
+unfolding framing
+framed-by s row =
+    let row4 = row .1 .1 .1 in
+    let states = in-range (stateCount s) 64 (row4 .0) in
+    let highest = in-range (highestMoment s) 8 (row4 .1 .0) in
+    let header : 13 ≤ length s = ltb-false (length s) 13 (row .0) in
+    let after : lengthField s ≡ length s - 2 = held-equal (lengthField s) (length s - 2) (row .1 .0) in
+    let sized : lengthField s ≡ 4 * stateCount s * stateCount s + 11 = held-equal (lengthField s) (4 * stateCount s * stateCount s + 11) (row4 .1 .1 .0) in
+    record {
+      states-min = states .0;
+      states-max = states .1;
+      highest-min = highest .0;
+      highest-max = highest .1;
+      size = omega arith;
+    }
 
-some-above : (k n : ℕ) (f : ℕ → ℕ) → not (anyAbove k n f) ≡ false → k < largest n f
-some-above k n f h = ltb-true k (largest n f) (sym (any-largest k n f) ∙ not-false (anyAbove k n f) h)
+-- the rows 7 to 12
+pub good-by : (s : List ℕ) → Framed s → NoneHold (quantities s) → NoneHold (jumps (uniformRate (modelOf s)) (timeField s)) → Good (modelOf s)
+unfolding quantities jumps maxReward uniformRate jumpMillionths
+good-by s f row row12 =
+    let row9 = row .1 .1 in
+    let tolerance = in-range (toleranceField s) 100000000 (row .0) in
+    let time : timeField s ≡ 0 → ⊥ = eqb-false (timeField s) 0 (row .1 .0) in
+    let sums : largest (stateCount s) (rowSum (modelOf s)) ≤ 10000000 = none-above 10000000 (stateCount s) (rowSum (modelOf s)) (row9 .1 .1 .0) in
+    record {
+      states-pos = f .states-min;
+      states-max = f .states-max;
+      highest-pos = f .highest-min;
+      highest-max = f .highest-max;
+      tolerance-pos = tolerance .0;
+      tolerance-max = tolerance .1;
+      time-pos = omega (arith, time);
+      rewards-max = none-above 1000000 (stateCount s) (rewardField s) (row9 .0);
+      rewards-pos = some-above 0 (stateCount s) (rewardField s) (row9 .1 .0);
+      rows-max = sums;
+      rate-min = rate-pos (modelOf s);
+      rate-max = omega (arith, sums);
+      jumps-pos = mul-pos (rate-pos (modelOf s)) (omega (arith, time));
+      jumps-max = ltb-false 256000000 (uniformRate (modelOf s) * timeField s) (row12 .0);
+    }
 
--- the rows 4 to 12, as facts of the model
-module _ (s : List ℕ) (cells : ℕ) (accepted : judgement s cells ≡ judged.Accepted) where
-  row : NoneHold (rows s cells)
-  unfolding judgement
-  row = none-hold (rows s cells) accepted
+-- the rows 1 to 11, which every call that reads a file shares: what their acceptance with E tells
+pub record Rateable (s : List ℕ) (E : ℕ) : Type 0 where
+  pub framed : Framed s
+  pub rate : E ≡ uniformRate (modelOf s)
+  pub rate-max : E ≤ 10000000
 
-  pub good : Good (modelOf s)
-  unfolding rows maxReward uniformRate jumpMillionths
-  good =
-      let row4 = row .1 .1 .1 in
-      let row7 = row4 .1 .1 .1 in
-      let row9 = row7 .1 .1 in
-      let row12 = row9 .1 .1 .1 in
-      let states = in-range (stateCount s) 64 (row4 .0) in
-      let highest = in-range (highestMoment s) 8 (row4 .1 .0) in
-      let tolerance = in-range (toleranceField s) 100000000 (row7 .0) in
-      let time : timeField s ≡ 0 → ⊥ = eqb-false (timeField s) 0 (row7 .1 .0) in
-      let sums : largest (stateCount s) (rowSum (modelOf s)) ≤ 10000000 = none-above 10000000 (stateCount s) (rowSum (modelOf s)) (row9 .1 .1 .0) in
-      let jumps : uniformRate (modelOf s) * timeField s ≤ 256000000 = ltb-false 256000000 (uniformRate (modelOf s) * timeField s) (row12 .0) in
-      record {
-        states-pos = states .0;
-        states-max = states .1;
-        highest-pos = highest .0;
-        highest-max = highest .1;
-        tolerance-pos = tolerance .0;
-        tolerance-max = tolerance .1;
-        time-pos = omega (arith, time);
-        rewards-max = none-above 1000000 (stateCount s) (rewardField s) (row9 .0);
-        rewards-pos = some-above 0 (stateCount s) (rewardField s) (row9 .1 .0);
-        rows-max = sums;
-        rate-min = rate-pos (modelOf s);
-        rate-max = omega (arith, sums);
-        jumps-pos = mul-pos (rate-pos (modelOf s)) (omega (arith, time));
-        jumps-max = jumps;
-      }
+pub rateable : (s : List ℕ) (E : ℕ) → firstHeld (framing s ++ quantities s) (uniformRate (modelOf s)) ≡ accepted E → Rateable s E
+unfolding quantities uniformRate
+rateable s E h =
+    let none = none-in-parts (framing s) (quantities s) (none-hold (framing s ++ quantities s) (uniformRate (modelOf s)) E h) in
+    let rate : uniformRate (modelOf s) ≡ E = accepted-value (framing s ++ quantities s) (uniformRate (modelOf s)) E h in
+    record {
+      framed = framed-by s (none .0);
+      rate = sym rate;
+      rate-max = omega (arith, none-above 10000000 (stateCount s) (rowSum (modelOf s)) (none .1 .1 .1 .1 .1 .0));
+    }
 
-  pub facts : Facts s cells
-  unfolding rows
-  facts =
-      let row2 = row .1 in
-      let row6 = row2 .1 .1 .1 .1 in
-      let row13 = row6 .1 .1 .1 .1 .1 .1 .1 in
-      record {
-        header = ltb-false (length s) 13 (row .0);
-        framed = eqb-true (lengthField s) (length s - 2) (not-false (eqb (lengthField s) (length s - 2)) (row2 .0));
-        versioned = eqb-true (version s) 1 (not-false (eqb (version s) 1) (row2 .1 .0));
-        sized = eqb-true (lengthField s) (4 * stateCount s * stateCount s + 11) (not-false (eqb (lengthField s) (4 * stateCount s * stateCount s + 11)) (row6 .0));
-        good = good;
-        room = ltb-false cells (stateCount s * highestMoment s) (row13 .0);
-      }
+-- the whole table: those rows, then the jumps and the room
+pub judgement-in-parts : (s : List ℕ) (cells : ℕ) → judgement s cells ≡ andThen (firstHeld (framing s ++ quantities s) (uniformRate (modelOf s))) (judgedBy (jumps (uniformRate (modelOf s)) (timeField s) ++ room (stateCount s * highestMoment s) cells))
+unfolding judgement rows
+judgement-in-parts s cells = rw append-assoc (in-parts (framing s ++ quantities s) _ (uniformRate (modelOf s)) tt)
+
+-- all of them: what acceptance tells
+pub facts : (s : List ℕ) (cells : ℕ) → judgement s cells ≡ accepted tt → Facts s cells
+unfolding judgement rows room
+facts s cells passed =
+    let X : Rows = jumps (uniformRate (modelOf s)) (timeField s) in
+    let C : Rows = room (stateCount s * highestMoment s) cells in
+    let last = none-in-parts (framing s ++ quantities s ++ X) C (none-hold (rows s cells) (tt {0}) tt passed) in
+    let to12 = none-in-parts (framing s ++ quantities s) X (last .0) in
+    let to11 = none-in-parts (framing s) (quantities s) (to12 .0) in
+    let f : Framed s = framed-by s (to11 .0) in
+    record {
+      framed = f;
+      good = good-by s f (to11 .1) (to12 .1);
+      room = ltb-false cells (stateCount s * highestMoment s) (last .1 .0);
+    }
 
 -- the chain of a model is one that the recurrence stays in range on
 pub stochastic : (m : Model) → Stochastic (chainOf m)

@@ -8,7 +8,7 @@ use lib.ListN.{getD}
 use lib.Dec.{eqb, ltb}
 use borrow.Author.Tests.{eq-eqb, ne-eqb, lt-ltb}
 use Rattle.definitions.specs.Sums.{sum, pick}
-use Rattle.definitions.specs.Chain.{Model, jumpRate, rowSum, uniformRate, c, maxReward, Chain, padded, flat, arrays}
+use Rattle.definitions.specs.Chain.{Model, jumpRate, rowSum, uniformRate, c, maxReward, Chain, chainOf, padded, flat, arrays, sizesOf}
 use Rattle.laws.specs.SumLaws.{sum-same, le-largest}
 use Rattle.laws.specs.ListLaws.{getD-firsts}
 
@@ -37,7 +37,7 @@ pub row-sums-to-rate : (m : Model) (i : ℕ) → i < m .states → sum (m .state
 unfolding c
 row-sums-to-rate m i l =
     let split : sum (m .states) (c m i) ≡ rowSum m i + (uniformRate m - rowSum m i) =
-    unfold jumpRate rowSum in sum-diagonal (m .states) i (uniformRate m - rowSum m i) (m .rate i) l in
+    unfold jumpRate rowSum in sum-diagonal (m .states) i (uniformRate m - rowSum m i) (m .transition i) l in
     omega (arith, rowSum-le-rate m i l)
 
 -- f ≤ F
@@ -48,13 +48,13 @@ reward-le-largest m i l = le-largest (m .states) (m .reward) i l
 -- a padded vector at a state, and past the states
 pub getD-padded : (M : ℕ) (v : ℕ → ℕ) (i : ℕ) → M ≤ 64 → i < M → getD (padded M v) i 0 ≡ v i
 unfolding padded
-getD-padded M v i h l = getD-firsts 64 (λ j. pick (ltb j M) (v j) 0) i (omega arith) ∙ rw (lt-ltb i M l)
+getD-padded M v i h l = getD-firsts 0 64 (λ j. pick (ltb j M) (v j) 0) i (omega arith) ∙ rw (lt-ltb i M l)
 
 -- c(i,j) in its place of the array
 pub getD-flat : (ch : Chain) (i j : ℕ) → ch .states ≤ 64 → i < ch .states → j < ch .states → getD (flat ch) (i * 64 + j) 0 ≡ ch .entry i j
 unfolding flat
 getD-flat ch i j h li lj =
-    getD-firsts 4096 (λ k. pick (ltb (k / 64) (ch .states) && ltb (k % 64) (ch .states)) (ch .entry (k / 64) (k % 64)) 0) (i * 64 + j) (omega arith)
+    getD-firsts 0 4096 (λ k. pick (ltb (k / 64) (ch .states) && ltb (k % 64) (ch .states)) (ch .entry (k / 64) (k % 64)) 0) (i * 64 + j) (omega arith)
     ∙ rw (row, column, lt-ltb i (ch .states) li, lt-ltb j (ch .states) lj)
   where
     row : (i * 64 + j) / 64 ≡ i
@@ -71,13 +71,13 @@ pub record SameChain (a b : Chain) : Type 0 where
   pub entry : (i j : ℕ) → i < a .states → j < a .states → a .entry i j ≡ b .entry i j
   pub reward : (i : ℕ) → i < a .states → a .reward i ≡ b .reward i
 
--- the arrays of a chain hold that chain
-pub arrays-same : (ch : Chain) → ch .states ≤ 64 → SameChain (arrays (ch .states) (ch .rate) (flat ch) (padded (ch .states) (ch .reward)) (ch .largestReward)) ch
-arrays-same ch h =
+-- the arrays of a model's chain hold that chain
+pub arrays-same : (m : Model) → m .states ≤ 64 → SameChain (arrays (sizesOf m) (flat (chainOf m)) (padded (m .states) (m .reward))) (chainOf m)
+arrays-same m h =
     record {
       states = refl;
       rate = refl;
       largestReward = refl;
-      entry = λ i j li lj. getD-flat ch i j h li lj;
-      reward = λ i l. getD-padded (ch .states) (ch .reward) i h l;
+      entry = λ i j li lj. getD-flat (chainOf m) i j h li lj;
+      reward = λ i l. getD-padded (m .states) (m .reward) i h l;
     }

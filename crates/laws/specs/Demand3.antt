@@ -4,21 +4,18 @@ use native.Mathlib.Omega.{arith}
 use mathlib.Core.Path.{_≡_, refl}
 use mathlib.Core.List.{List}
 use lib.ListN.{length}
-use Rattle.definitions.specs.declared.Judgement.{Judgement}
-use Rattle.definitions.specs.declared.Judgement.the-variants as judged
-use Rattle.definitions.specs.declared.Outcome.the-variants as ended
 use Rattle.definitions.specs.Chain.{Model, modelOf, jumpMillionths, chainOf}
-use Rattle.definitions.specs.Rules.{judgement}
+use Rattle.definitions.specs.Rules.{Answer, accepted, refused, judgement}
 use Rattle.definitions.specs.Vectors.{U}
 use Rattle.definitions.specs.Weights.{weightSum}
-use Rattle.definitions.specs.Moment.{weighted, moment, modelLevel, answered, outcome, cellsAfter}
+use Rattle.definitions.specs.Moment.{weighted, moment, modelLevel, outcome, cellsAfter}
 use Rattle.definitions.specs.Average.{proper, exactU, average}
 use Rattle.definitions.specs.Promise.{ticks, Close, Promise, Promised}
 use Rattle.laws.specs.LevelLaws.{level-is, level-max, level-mode}
 use Rattle.laws.specs.VectorLaws.{U-bound}
 use Rattle.laws.specs.VectorError.{vector-near}
 use Rattle.laws.specs.AverageBound.{Setting, LastQuotient, close-at-level, close-past-level}
-use Rattle.laws.specs.MomentLaws.{getD-moment, last-down}
+use Rattle.laws.specs.MomentLaws.{getD-moment, last-down, outcome-refused, outcome-accepted}
 use Rattle.laws.specs.Acceptance.{Good, Facts, facts, stochastic}
 
 module _ (m : Model) (g : Good m) where
@@ -61,10 +58,10 @@ module _ (m : Model) (g : Good m) where
       (λ n h. U-bound (chainOf m) (stochastic m) n r i l))
 
 -- demand 3 for every accepted file, at its level, of the cells after the call
-pub demand3 : (s cells : List ℕ) → judgement s (length cells) ≡ judged.Accepted → Promise s (modelLevel (modelOf s)) (cellsAfter (ended.Level (modelLevel (modelOf s))) s cells)
+pub demand3 : (s cells : List ℕ) → judgement s (length cells) ≡ accepted tt → Promise s (modelLevel (modelOf s)) (cellsAfter (accepted (modelLevel (modelOf s))) s cells)
 unfolding cellsAfter
-demand3 s cells accepted =
-    let f : Facts s (length cells) = facts s (length cells) accepted in
+demand3 s cells passed =
+    let f : Facts s (length cells) = facts s (length cells) passed in
     record {
       rewarded = f .good .rewards-pos;
       close =
@@ -72,11 +69,10 @@ demand3 s cells accepted =
           rw (getD-moment (modelOf s) (modelLevel (modelOf s)) i r cells l low high) (moment-close (modelOf s) (f .good) r i l);
     }
 
--- and for every file, by its outcome
+-- and for every file, by what the call answers of it
 pub promised : (s cells : List ℕ) → Promised (outcome s (length cells)) s (cellsAfter (outcome s (length cells)) s cells)
-unfolding outcome answered
 promised s cells = from (judgement s (length cells)) refl
   where
-    from : (j : Judgement) → judgement s (length cells) ≡ j → Promised (answered j s) s (cellsAfter (answered j s) s cells)
-    from judged.Accepted e = demand3 s cells e
-    from (judged.Refused k) e = tt
+    from : (j : Answer (Unit {0})) → judgement s (length cells) ≡ j → Promised (outcome s (length cells)) s (cellsAfter (outcome s (length cells)) s cells)
+    from (accepted tt) e = rw (outcome-accepted s (length cells) e) (demand3 s cells e)
+    from (refused k) e = rw (outcome-refused s (length cells) k e) tt

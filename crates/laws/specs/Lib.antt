@@ -4,6 +4,7 @@ pub mod SumLaws
 pub mod ListLaws
 pub mod ChainLaws
 pub mod ArrayLaws
+pub mod RuleLaws
 pub mod VectorLaws
 pub mod Acceptance
 pub mod WeightLaws

@@ -1,74 +1,102 @@
--- Lists whose first entries are given by a function.
+-- Lists whose first entries are given by a function, over the type of the entries.
 use Prim.Native.Nat.{ℕ, zero, suc, _+_, _-_, _≤_, _<_}
 use native.Mathlib.Omega.{arith}
 use native.Mathlib.Numerals.{add-one}
-use native.Mathlib.Decide.{ℕ-discrete}
+use native.Mathlib.Decide.{ℕ-discrete, decLt}
 use mathlib.Core.Path.{_≡_, refl, sym, _∙_, ap, ap₂}
 use mathlib.Core.List.{List, [], _∷_, _++_, append-assoc, append-nil}
-use lib.ListN.{length, getD, drop, set, length-append, length-drop, List·getD-append, drop-of-length-le}
-use lib.Seq.{drop-cons, set-at, getD-at, getD-append-add, getD-drop, ext-getD}
+use lib.ListN.{length, getD, drop, set, length-append, length-drop, length-set, List·getD-append, drop-of-length-le}
+use lib.Seq.{drop-cons, set-at, getD-at, getD-append-add, getD-drop, getD-set-same, getD-set-other, ext-getD}
 use Rattle.definitions.specs.Sums.{firsts, over}
 
-pub length-firsts : (n : ℕ) (f : ℕ → ℕ) → length (firsts n f) ≡ n
-unfolding firsts
-length-firsts zero f = refl
-length-firsts (suc n) f = omega (arith, length-append (firsts n f) (f n ∷ []), length-firsts n f)
+module _ {A : Type 0} where
+  pub length-firsts : (n : ℕ) (f : ℕ → A) → length (firsts n f) ≡ n
+  unfolding firsts
+  length-firsts zero f = refl
+  length-firsts (suc n) f = omega (arith, length-append (firsts n f) (f n ∷ []), length-firsts n f)
 
-pub getD-firsts : (n : ℕ) (f : ℕ → ℕ) (i : ℕ) → i < n → getD (firsts n f) i 0 ≡ f i
-unfolding firsts
-getD-firsts zero f i l = absurd (omega arith)
-getD-firsts (suc n) f i l =
-    elim (ℕ-discrete i n) [
-      | yes e ↦ rw e (getD-at (firsts n f) (f n) [] 0 n (length-firsts n f))
-      | no d ↦ List·getD-append (firsts n f) (f n ∷ []) 0 i (omega (arith, length-firsts n f)) ∙ getD-firsts n f i (omega arith)
-    ]
+  -- an entry; d is what stands past a list's end
+  pub getD-firsts : (d : A) (n : ℕ) (f : ℕ → A) (i : ℕ) → i < n → getD (firsts n f) i d ≡ f i
+  unfolding firsts
+  getD-firsts d zero f i l = absurd (omega arith)
+  getD-firsts d (suc n) f i l =
+      elim (ℕ-discrete i n) [
+        | yes e ↦ rw e (getD-at (firsts n f) (f n) [] d n (length-firsts n f))
+        | no ne ↦ List·getD-append (firsts n f) (f n ∷ []) d i (omega (arith, length-firsts n f)) ∙ getD-firsts d n f i (omega arith)
+      ]
 
-pub firsts-same : (n : ℕ) (f g : ℕ → ℕ) → ((i : ℕ) → i < n → f i ≡ g i) → firsts n f ≡ firsts n g
-unfolding firsts
-firsts-same zero f g h = refl
-firsts-same (suc n) f g h = ap₂ (λ (l : List ℕ) (x : ℕ). l ++ (x ∷ [])) (firsts-same n f g (λ i l. h i (omega arith))) (h n (omega arith))
+  pub firsts-same : (n : ℕ) (f g : ℕ → A) → ((i : ℕ) → i < n → f i ≡ g i) → firsts n f ≡ firsts n g
+  unfolding firsts
+  firsts-same zero f g h = refl
+  firsts-same (suc n) f g h = ap₂ (λ (l : List A) (x : A). l ++ (x ∷ [])) (firsts-same n f g (λ i l. h i (omega arith))) (h n (omega arith))
 
--- a list is the list of its entries
-pub firsts-of : (n : ℕ) (f : ℕ → ℕ) (l : List ℕ) → length l ≡ n → ((i : ℕ) → i < n → getD l i 0 ≡ f i) → l ≡ firsts n f
-firsts-of n f l e h = ext-getD 0 l (firsts n f) (e ∙ sym (length-firsts n f)) (λ i b. h i (omega arith) ∙ sym (getD-firsts n f i (omega arith)))
+  -- a list is the list of its entries
+  pub firsts-of : (d : A) (n : ℕ) (f : ℕ → A) (l : List A) → length l ≡ n → ((i : ℕ) → i < n → getD l i d ≡ f i) → l ≡ firsts n f
+  firsts-of d n f l e h = ext-getD d l (firsts n f) (e ∙ sym (length-firsts n f)) (λ i b. h i (omega arith) ∙ sym (getD-firsts d n f i (omega arith)))
 
-pub over-none : (f : ℕ → ℕ) (l : List ℕ) → over 0 f l ≡ l
-unfolding over firsts
-over-none f l = refl
+  -- a store at k: the list of the entries that it leaves, and of the one stored
+  pub firsts-store : (d : A) (n : ℕ) (f g : ℕ → A) (k : ℕ) → k < n → ((i : ℕ) → i < n → (i ≡ k → ⊥) → f i ≡ g i) → set (firsts n f) k (g k) ≡ firsts n g
+  firsts-store d n f g k h other =
+      firsts-of d n g (set (firsts n f) k (g k)) (length-set (firsts n f) k (g k) ∙ length-firsts n f)
+      (λ i l. elim (ℕ-discrete i k) [
+        | yes e ↦ rw e (getD-set-same (firsts n f) k (g k) d (omega (arith, length-firsts n f)))
+        | no ne ↦ getD-set-other (firsts n f) k i (g k) d ne ∙ getD-firsts d n f i l ∙ other i l ne
+      ])
 
-pub length-over : (n : ℕ) (f : ℕ → ℕ) (l : List ℕ) → n ≤ length l → length (over n f l) ≡ length l
-unfolding over
-length-over n f l h = omega (arith, length-append (firsts n f) (drop n l), length-firsts n f, length-drop n l)
+  pub over-none : (f : ℕ → A) (l : List A) → over 0 f l ≡ l
+  unfolding over firsts
+  over-none f l = refl
 
--- one entry more
-pub over-more : (n : ℕ) (f : ℕ → ℕ) (l : List ℕ) → n < length l → set (over n f l) n (f n) ≡ over (n + 1) f l
-unfolding over firsts
-over-more n f l h =
-    rw (add-one, drop-cons l n 0 h) (set-at (firsts n f) (getD l n 0) (drop (suc n) l) (f n) n (length-firsts n f) ∙ sym (append-assoc (firsts n f) (f n ∷ []) (drop (suc n) l)))
+  pub length-over : (n : ℕ) (f : ℕ → A) (l : List A) → n ≤ length l → length (over n f l) ≡ length l
+  unfolding over
+  length-over n f l h = omega (arith, length-append (firsts n f) (drop n l), length-firsts n f, length-drop n l)
 
--- an entry of the first n
-pub getD-over : (n : ℕ) (f : ℕ → ℕ) (l : List ℕ) (i : ℕ) → i < n → getD (over n f l) i 0 ≡ f i
-unfolding over
-getD-over n f l i h = List·getD-append (firsts n f) (drop n l) 0 i (omega (arith, length-firsts n f)) ∙ getD-firsts n f i h
+  -- an entry of the first n
+  pub getD-over : (d : A) (n : ℕ) (f : ℕ → A) (l : List A) (i : ℕ) → i < n → getD (over n f l) i d ≡ f i
+  unfolding over
+  getD-over d n f l i h = List·getD-append (firsts n f) (drop n l) d i (omega (arith, length-firsts n f)) ∙ getD-firsts d n f i h
 
--- an entry past the first n is as it was
-pub getD-over-past : (n : ℕ) (f : ℕ → ℕ) (l : List ℕ) (i : ℕ) → n ≤ i → getD (over n f l) i 0 ≡ getD l i 0
-unfolding over
-getD-over-past n f l i h =
-    ap (λ (k : ℕ). getD (firsts n f ++ drop n l) k 0) (omega (arith, length-firsts n f))
-    ∙ getD-append-add (firsts n f) (drop n l) (i - n) 0
-    ∙ getD-drop n l (i - n) 0
-    ∙ ap (λ (k : ℕ). getD l k 0) (omega arith)
+  -- an entry past the first n is as it was
+  pub getD-over-past : (d : A) (n : ℕ) (f : ℕ → A) (l : List A) (i : ℕ) → n ≤ i → getD (over n f l) i d ≡ getD l i d
+  unfolding over
+  getD-over-past d n f l i h =
+      ap (λ (k : ℕ). getD (firsts n f ++ drop n l) k d) (omega (arith, length-firsts n f))
+      ∙ getD-append-add (firsts n f) (drop n l) (i - n) d
+      ∙ getD-drop n l (i - n) d
+      ∙ ap (λ (k : ℕ). getD l k d) (omega arith)
 
-pub over-same : (n : ℕ) (f g : ℕ → ℕ) (l : List ℕ) → ((i : ℕ) → i < n → f i ≡ g i) → over n f l ≡ over n g l
-unfolding over
-over-same n f g l h = ap (λ (x : List ℕ). x ++ drop n l) (firsts-same n f g h)
+  pub over-same : (n : ℕ) (f g : ℕ → A) (l : List A) → ((i : ℕ) → i < n → f i ≡ g i) → over n f l ≡ over n g l
+  unfolding over
+  over-same n f g l h = ap (λ (x : List A). x ++ drop n l) (firsts-same n f g h)
 
--- all of them
-pub over-all : (n : ℕ) (f : ℕ → ℕ) (l : List ℕ) → length l ≡ n → over n f l ≡ firsts n f
-unfolding over
-over-all n f l e = ap (λ (x : List ℕ). firsts n f ++ x) (drop-of-length-le l {i = n} (omega arith)) ∙ append-nil (firsts n f)
+  -- a store extends the filled first entries: one turn of every loop that fills a list from the front
+  pub over-store : (n : ℕ) (f : ℕ → A) (l now : List A) (v : A) → n < length l → now ≡ over n f l → v ≡ f n → set now n v ≡ over (n + 1) f l
+  over-store n f l now v h e q = ap₂ (λ (x : List A) (y : A). set x n y) e q ∙ (unfold over firsts in more)
+    where
+      more : set (firsts n f ++ drop n l) n (f n) ≡ firsts (n + 1) f ++ drop (n + 1) l
+      more = unfold firsts in rw (add-one, drop-cons l n (f n) h) (set-at (firsts n f) (getD l n (f n)) (drop (suc n) l) (f n) n (length-firsts n f) ∙ sym (append-assoc (firsts n f) (f n ∷ []) (drop (suc n) l)))
 
--- a loop that fills a list from the front: one store more
-pub over-store : (n : ℕ) (f : ℕ → ℕ) (l now : List ℕ) (v : ℕ) → n < length l → now ≡ over n f l → v ≡ f n → set now n v ≡ over (n + 1) f l
-over-store n f l now v h e q = ap₂ (λ (x : List ℕ) (y : ℕ). set x n y) e q ∙ over-more n f l h
+  -- where f agrees with the list from n to m − 1, filled up to n it is filled up to m
+  pub over-further : (d : A) (n m : ℕ) (f : ℕ → A) (l : List A) → n ≤ m → m ≤ length l → ((k : ℕ) → n ≤ k → k < m → f k ≡ getD l k d) → over n f l ≡ over m f l
+  over-further d n m f l nm ml rest =
+      ext-getD d (over n f l) (over m f l) (length-over n f l (omega arith) ∙ sym (length-over m f l ml)) (λ k b. same k)
+    where
+      same : (k : ℕ) → getD (over n f l) k d ≡ getD (over m f l) k d
+      same k =
+          elim (decLt k n) [
+            | yes b ↦ getD-over d n f l k b ∙ sym (getD-over d m f l k (omega arith))
+            | no p ↦
+                getD-over-past d n f l k (omega (arith, p))
+                ∙ elim (decLt k m) [
+                  | yes b ↦ sym (getD-over d m f l k b ∙ rest k (omega (arith, p)) b)
+                  | no q ↦ sym (getD-over-past d m f l k (omega (arith, q)))
+                ]
+          ]
+
+  -- filled up to n, with the rest as f has it, the whole list is f's
+  pub over-whole : (d : A) (n size : ℕ) (f : ℕ → A) (l : List A) → n ≤ size → length l ≡ size → ((k : ℕ) → n ≤ k → k < size → f k ≡ getD l k d) → over n f l ≡ firsts size f
+  unfolding over
+  over-whole d n size f l h e rest =
+      over-further d n size f l h (omega arith) rest
+      ∙ ap (λ (x : List A). firsts size f ++ x) (drop-of-length-le l {i = size} (omega arith))
+      ∙ append-nil (firsts size f)

@@ -5,17 +5,15 @@ use native.Mathlib.Nat.{mul-add-div-right, mul-add-mod-self-right, div-eq-of-lt,
 use mathlib.Core.Path.{_≡_, refl, sym, _∙_, ap, ap₂}
 use mathlib.Core.List.{List}
 use lib.ListN.{getD}
-use Rattle.definitions.specs.declared.Judgement.{Judgement}
-use Rattle.definitions.specs.declared.Judgement.the-variants as judged
-use Rattle.definitions.specs.declared.Outcome.the-variants as ended
 use Rattle.definitions.specs.Sums.{over}
 use Rattle.definitions.specs.Chain.{Model, modelOf}
 use Rattle.definitions.specs.Vectors.{ONE}
 use Rattle.definitions.specs.Weights.{mode, weight, weightSum}
-use Rattle.definitions.specs.Moment.{term, weighted, lastQuotient, weightedMean, moment, cellOf, cell, modelLevel, answered, outcome}
-use Rattle.definitions.specs.Rules.{judgement}
+use Rattle.definitions.specs.Moment.{term, weighted, lastQuotient, weightedMean, moment, cellOf, cell, modelLevel, outcome}
+use Rattle.definitions.specs.Rules.{Answer, accepted, refused, rows, judgement}
 use Rattle.laws.specs.Rounding.{quotient-low, quotient-high, quotient-at-most}
 use Rattle.laws.specs.SumLaws.{sum-mono}
+use Rattle.laws.specs.RuleLaws.{accepted-is-no-refusal, other-value}
 use Rattle.laws.specs.ListLaws.{getD-over}
 use Rattle.laws.specs.WeightLaws.{weightSum-min}
 use Rattle.laws.specs.AverageBound.{LastQuotient}
@@ -40,7 +38,7 @@ cell-holds m N i r low high =
 -- in the cells after a call
 pub getD-moment : (m : Model) (N i r : ℕ) (cells : List ℕ) → i < m .states → 1 ≤ r → r ≤ m .highest → getD (over (m .states * m .highest) (cell m N) cells) (cellOf m i r) 0 ≡ moment m N r i
 getD-moment m N i r cells l low high =
-    getD-over (m .states * m .highest) (cell m N) cells (cellOf m i r) (unfold cellOf in cell-in (m .states) (m .highest) i (r - 1) l (omega arith))
+    getD-over 0 (m .states * m .highest) (cell m N) cells (cellOf m i r) (unfold cellOf in cell-in (m .states) (m .highest) i (r - 1) l (omega arith))
     ∙ cell-holds m N i r low high
 
 -- A is at most S where no u is above ONE
@@ -64,24 +62,18 @@ last-down X N u reached h =
     }
 
 -- the outcome of a refused file, and of an accepted one
-pub outcome-refused : (s : List ℕ) (cells k : ℕ) → judgement s cells ≡ judged.Refused k → outcome s cells ≡ ended.Refused k
-unfolding outcome answered
-outcome-refused s cells k e = ap (λ (j : Judgement). answered j s) e
+pub outcome-refused : (s : List ℕ) (cells k : ℕ) → judgement s cells ≡ refused k → outcome s cells ≡ refused k
+unfolding outcome judgement
+outcome-refused s cells k e = other-value (rows s cells) (tt {0}) (modelLevel (modelOf s)) ∙ rw e refl
 
-pub outcome-accepted : (s : List ℕ) (cells : ℕ) → judgement s cells ≡ judged.Accepted → outcome s cells ≡ ended.Level (modelLevel (modelOf s))
-unfolding outcome answered
-outcome-accepted s cells e = ap (λ (j : Judgement). answered j s) e
-
--- an acceptance is no refusal, whatever their numbers
-pub level-is-no-refusal : (n k : ℕ) → ended.Level n ≡ ended.Refused k → ⊥
-level-is-no-refusal n k e = let z : _≡_ {A = ℕ} 0 1 = cc in omega arith
+pub outcome-accepted : (s : List ℕ) (cells : ℕ) → judgement s cells ≡ accepted tt → outcome s cells ≡ accepted (modelLevel (modelOf s))
+unfolding outcome judgement
+outcome-accepted s cells e = other-value (rows s cells) (tt {0}) (modelLevel (modelOf s)) ∙ rw e refl
 
 -- a level is answered of an accepted file alone
-pub level-accepted : (s : List ℕ) (cells n : ℕ) → outcome s cells ≡ ended.Level n → judgement s cells ≡ judged.Accepted
-unfolding outcome answered
+pub level-accepted : (s : List ℕ) (cells n : ℕ) → outcome s cells ≡ accepted n → judgement s cells ≡ accepted tt
 level-accepted s cells n e = from (judgement s cells) refl
   where
-    from : (j : Judgement) → judgement s cells ≡ j → judgement s cells ≡ judged.Accepted
-    from judged.Accepted h = h
-    from (judged.Refused k) h =
-        absurd (level-is-no-refusal n k (sym e ∙ ap (λ (i : Judgement). answered i s) h))
+    from : (j : Answer (Unit {0})) → judgement s cells ≡ j → judgement s cells ≡ accepted tt
+    from (accepted tt) h = h
+    from (refused k) h = absurd (accepted-is-no-refusal n k (sym e ∙ outcome-refused s cells k h))

@@ -4,6 +4,7 @@ use mathlib.Core.Path.{_≡_}
 use Prim.Native.Nat.{ℕ, _+_, _*_, _/_, _%_, _≤_, _<_, _^_}
 use lib.Dec.{ltb}
 use lib.ListN.{length, getD}
+use Rattle.definitions.specs.declared.Sizes.{Sizes}
 use Rattle.definitions.specs.Sums.{sum, firsts, pick}
 use Rattle.definitions.specs.Chain.{Chain}
 use Rattle.definitions.specs.Vectors.{ONE, U}
@@ -23,15 +24,15 @@ partSum ch w R n k = sum n (λ j. term (getD w j 0) (U ch j (k % R + 1) (k / R))
 unfoldable pub partSums : Chain → List ℕ → ℕ → ℕ → List ℕ
 partSums ch w R n = firsts 512 (λ k. pick (ltb k (ch .states * R)) (partSum ch w R n k) 0)
 
--- the terms of one n may be added to the sums: count is M × R
-pub record Addable (sums : List ℕ) (table : List (List ℕ)) (w M R : ℕ) : Type 0 where
+-- the terms of one n, with the weight w, may be added to the sums
+pub record Addable (z : Sizes) (w : ℕ) (sums : List ℕ) (table : List (List ℕ)) : Type 0 where
   pub entries : length sums ≡ 512
-  pub states-max : M ≤ 64
-  pub highest-pos : 1 ≤ R
-  pub highest-max : R ≤ 8
+  pub states-max : z .states ≤ 64
+  pub highest-pos : 1 ≤ z .highest
+  pub highest-max : z .highest ≤ 8
   pub weight-max : w ≤ GREATEST
-  pub ticks-max : (k : ℕ) → k < M * R → inTable table R k ≤ ONE
-  pub room : (k : ℕ) → k < M * R → getD sums k 0 ≤ 1000 * GREATEST
+  pub ticks-max : (k : ℕ) → k < z .states * z .highest → inTable table (z .highest) k ≤ ONE
+  pub room : (k : ℕ) → k < z .states * z .highest → getD sums k 0 ≤ 1000 * GREATEST
 
 -- the sums may be divided by S
 pub record Divisible (sums : List ℕ) (S count : ℕ) : Type 0 where
@@ -40,10 +41,9 @@ pub record Divisible (sums : List ℕ) (S count : ℕ) : Type 0 where
   pub total-max : S < 2 ^ 62
   pub below : (k : ℕ) → k < count → getD sums k 0 ≤ S
 
--- what the sums up to level N are made from: the arrays of a chain, the highest moment R and the weights w
-pub record Summable (c f : List ℕ) (M E F R : ℕ) (w : List ℕ) (N : ℕ) : Type 0 where
-  pub ready : Ready c f M E F
-  pub highest-pos : 1 ≤ R
-  pub highest-max : R ≤ 8
+-- what the sums up to level N are made from: the arrays of a chain and the weights w
+pub record Summable (z : Sizes) (c f w : List ℕ) (N : ℕ) : Type 0 where
+  pub ready : Ready z c f
+  pub highest-pos : 1 ≤ z .highest
   pub level-max : N ≤ 563
   pub weight-max : (n : ℕ) → n ≤ N → getD w n 0 ≤ GREATEST

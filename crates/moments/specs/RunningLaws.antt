@@ -7,9 +7,10 @@ use native.Mathlib.Nat.{mod-lt, div-lt-iff-lt-mul, mul-le-mul, mul-le-mul-left, 
 use native.Mathlib.Numerals.{add-one}
 use native.Mathlib.Omega.{arith}
 use lib.Dec.{ltb}
-use lib.ListN.{length, getD, replicate, getD-replicate}
+use lib.ListN.{length, getD}
 use lib.Seq.{ext-getD}
 use borrow.Author.Tests.{lt-ltb, le-ltb}
+use Rattle.definitions.specs.declared.Sizes.{Sizes}
 use Rattle.definitions.specs.Sums.{over, pick}
 use Rattle.definitions.specs.Chain.{Chain, arrays}
 use Rattle.definitions.specs.Vectors.{ONE, U}
@@ -18,6 +19,7 @@ use Rattle.definitions.specs.Moment.{term}
 use Rattle.laws.specs.Rounding.{quotient-at-most}
 use Rattle.laws.specs.SumLaws.{sum-zero, sum-suc, sum-mono, sum-constant}
 use Rattle.laws.specs.ListLaws.{length-firsts, getD-firsts, length-over, getD-over, getD-over-past}
+use Rattle.laws.specs.ArrayLaws.{zeros, length-zeros, zero-at}
 use Rattle.laws.specs.VectorLaws.{Stochastic, U-bound}
 use Rattle.vectors.specs.Table.{tableOf}
 use Rattle.vectors.specs.TableLaws.{table-entry}
@@ -46,11 +48,11 @@ module _ (ch : Chain) (w : List ℕ) (R : ℕ) where
 
   pub sums-at : (n k : ℕ) → k < 512 → k < ch .states * R → getD (partSums ch w R n) k 0 ≡ partSum ch w R n k
   unfolding partSums
-  sums-at n k h l = getD-firsts 512 (λ j. pick (ltb j (ch .states * R)) (partSum ch w R n j) 0) k h ∙ rw (lt-ltb k (ch .states * R) l)
+  sums-at n k h l = getD-firsts 0 512 (λ j. pick (ltb j (ch .states * R)) (partSum ch w R n j) 0) k h ∙ rw (lt-ltb k (ch .states * R) l)
 
   sums-past : (n k : ℕ) → k < 512 → ch .states * R ≤ k → getD (partSums ch w R n) k 0 ≡ 0
   unfolding partSums
-  sums-past n k h l = getD-firsts 512 (λ j. pick (ltb j (ch .states * R)) (partSum ch w R n j) 0) k h ∙ rw (le-ltb k (ch .states * R) l)
+  sums-past n k h l = getD-firsts 0 512 (λ j. pick (ltb j (ch .states * R)) (partSum ch w R n j) 0) k h ∙ rw (le-ltb k (ch .states * R) l)
 
   part-next : (n k : ℕ) → partSum ch w R (n + 1) k ≡ partSum ch w R n k + term (getD w n 0) (U ch n (k % R + 1) (k / R))
   unfolding partSum
@@ -58,10 +60,10 @@ module _ (ch : Chain) (w : List ℕ) (R : ℕ) where
       ap (λ (x : ℕ). partSum ch w R x k) (add-one n) ∙ sum-suc n (λ j. term (getD w j 0) (U ch j (k % R + 1) (k / R)))
 
   -- no terms yet
-  pub sums-none : replicate 512 0 ≡ partSums ch w R 0
+  pub sums-none : zeros 512 ≡ partSums ch w R 0
   sums-none =
-      ext-getD 0 (replicate 512 0) (partSums ch w R 0) (sym (length-sums 0))
-      (λ k h. getD-replicate 512 k 0 0 h ∙ sym (none k h))
+      ext-getD 0 (zeros 512) (partSums ch w R 0) (length-zeros 512 ∙ sym (length-sums 0))
+      (λ k h. zero-at 512 k ∙ sym (none k (omega (arith, length-zeros 512))))
     where
       none : (k : ℕ) → k < 512 → getD (partSums ch w R 0) k 0 ≡ 0
       none k h =
@@ -73,7 +75,7 @@ module _ (ch : Chain) (w : List ℕ) (R : ℕ) where
   module _ (states-max : ch .states ≤ 64) (highest-pos : 1 ≤ R) (highest-max : R ≤ 8) where
     in-table : (n k : ℕ) → k < ch .states * R → inTable (tableOf ch R n) R k ≡ U ch n (k % R + 1) (k / R)
     in-table n k l =
-        table-entry ch R n (k % R + 1) (k / R) highest-max (row-of-cell k R highest-pos) states-max (state-of-cell k (ch .states) R highest-pos l)
+        table-entry ch R n highest-max (k % R + 1) (k / R) (row-of-cell k R highest-pos) states-max (state-of-cell k (ch .states) R highest-pos l)
 
     -- one term more in each sum
     pub sums-next : (n : ℕ) → over (ch .states * R) (λ k. getD (partSums ch w R n) k 0 + term (getD w n 0) (inTable (tableOf ch R n) R k)) (partSums ch w R n) ≡ partSums ch w R (n + 1)
@@ -93,8 +95,8 @@ module _ (ch : Chain) (w : List ℕ) (R : ℕ) where
         at : (k : ℕ) → k < 512 → getD (over (ch .states * R) more (partSums ch w R n)) k 0 ≡ getD (partSums ch w R (n + 1)) k 0
         at k h =
             elim (decLt k (ch .states * R)) [
-              | yes l ↦ getD-over (ch .states * R) more (partSums ch w R n) k l ∙ added k l (sums-at n k h l) ∙ sym (sums-at (n + 1) k h l)
-              | no l ↦ getD-over-past (ch .states * R) more (partSums ch w R n) k (omega (arith, l)) ∙ sums-past n k h (omega (arith, l)) ∙ sym (sums-past (n + 1) k h (omega (arith, l)))
+              | yes l ↦ getD-over 0 (ch .states * R) more (partSums ch w R n) k l ∙ added k l (sums-at n k h l) ∙ sym (sums-at (n + 1) k h l)
+              | no l ↦ getD-over-past 0 (ch .states * R) more (partSums ch w R n) k (omega (arith, l)) ∙ sums-past n k h (omega (arith, l)) ∙ sym (sums-past (n + 1) k h (omega (arith, l)))
             ]
 
     -- the sums stay small: a term is at most its weight
@@ -104,35 +106,42 @@ module _ (ch : Chain) (w : List ℕ) (R : ℕ) where
         omega
         (arith, sum-mono n (λ j. term (getD w j 0) (U ch j (k % R + 1) (k / R))) (λ j. GREATEST) (λ j b. le-trans (term-max (getD w j 0) _ (U-bound ch s j (k % R + 1) (k / R) (state-of-cell k (ch .states) R highest-pos l))) (h j b)), sum-constant n GREATEST)
 
-    -- the terms of n may be added to the sums of those before
-    pub addable : (n : ℕ) → n ≤ 563 → Stochastic ch → ((j : ℕ) → j ≤ n → getD w j 0 ≤ GREATEST) → Addable (partSums ch w R n) (tableOf ch R n) (getD w n 0) (ch .states) R
-    addable n small s h =
-        record {
-          entries = length-sums n;
-          states-max = states-max;
-          highest-pos = highest-pos;
-          highest-max = highest-max;
-          weight-max = h n (omega arith);
-          ticks-max = λ k l. rw (in-table n k l) (U-bound ch s n (k % R + 1) (k / R) (state-of-cell k (ch .states) R highest-pos l));
-          room = λ k l. room k l;
-        }
-      where
-        room : (k : ℕ) → k < ch .states * R → getD (partSums ch w R n) k 0 ≤ 1000 * GREATEST
-        room k l =
-            omega (arith, sums-at n k (omega (arith, count-max (ch .states) R states-max highest-max)) l, part-max n k s (λ j b. h j (omega arith)) l)
-
 -- the same for a function that holds the sums and the table of a chain in arrays
-module _ (c f : List ℕ) (M E F R : ℕ) (w : List ℕ) (N : ℕ) (g : Summable c f M E F R w N) where
+module _ (z : Sizes) (c f w : List ℕ) (N : ℕ) (g : Summable z c f w N) where
   abbrev ch : Chain
-  ch = arrays M E c f F
+  ch = arrays z c f
 
-  pub may-add : (n : ℕ) (sums : List ℕ) (table : List (List ℕ)) → n ≤ N → sums ≡ partSums ch w R n → table ≡ tableOf ch R n → Addable sums table (getD w n 0) M R
+  abbrev R : ℕ
+  R = z .highest
+
+  M-max : z .states ≤ 64
+  M-max = g .ready .rewards .states-max
+
+  R-max : R ≤ 8
+  R-max = g .ready .rewards .highest-max
+
+  room : (n k : ℕ) → n ≤ N → k < z .states * R → getD (partSums ch w R n) k 0 ≤ 1000 * GREATEST
+  room n k h l =
+      omega
+      (arith, sums-at ch w R n k (omega (arith, count-max (z .states) R M-max R-max)) l, part-max ch w R M-max (g .highest-pos) R-max n k (g .ready .stochastic) (λ j b. g .weight-max j (omega arith)) l, g .level-max)
+
+  -- the terms of n may be added to the sums of those before
+  pub may-add : (n : ℕ) (sums : List ℕ) (table : List (List ℕ)) → n ≤ N → sums ≡ partSums ch w R n → table ≡ tableOf ch R n → Addable z (getD w n 0) sums table
   may-add n sums table h es et =
       rw (es, et)
-      (addable ch w R (g .ready .states-max) (g .highest-pos) (g .highest-max) n (omega (arith, g .level-max)) (g .ready .stochastic) (λ j l. g .weight-max j (omega arith)))
+      (record {
+        entries = length-sums ch w R n;
+        states-max = M-max;
+        highest-pos = g .highest-pos;
+        highest-max = R-max;
+        weight-max = g .weight-max n h;
+        ticks-max = λ k l. rw (in-table ch w R M-max (g .highest-pos) R-max n k l) (U-bound ch (g .ready .stochastic) n (k % R + 1) (k / R) (state-of-cell k (z .states) R (g .highest-pos) l));
+        room = λ k l. room n k h l;
+      })
 
-  pub added : (n : ℕ) (sums next : List ℕ) (table : List (List ℕ)) → sums ≡ partSums ch w R n → table ≡ tableOf ch R n → next ≡ over (M * R) (λ k. getD sums k 0 + term (getD w n 0) (inTable table R k)) sums → next ≡ partSums ch w R (n + 1)
+  -- and make the sums up to n
+  pub added : (n : ℕ) (sums next : List ℕ) (table : List (List ℕ)) → sums ≡ partSums ch w R n → table ≡ tableOf ch R n → next ≡ over (z .states * R) (λ k. getD sums k 0 + term (getD w n 0) (inTable table R k)) sums → next ≡ partSums ch w R (n + 1)
   added n sums next table es et e =
       e
-      ∙ ap₂ (λ (s : List ℕ) (t : List (List ℕ)). over (M * R) (λ k. getD s k 0 + term (getD w n 0) (inTable t R k)) s) es et
-      ∙ sums-next ch w R (g .ready .states-max) (g .highest-pos) (g .highest-max) n
+      ∙ ap₂ (λ (s : List ℕ) (t : List (List ℕ)). over (z .states * R) (λ k. getD s k 0 + term (getD w n 0) (inTable t R k)) s) es et
+      ∙ sums-next ch w R M-max (g .highest-pos) R-max n

@@ -2,7 +2,8 @@
 use mathlib.Core.List.{List}
 use mathlib.Core.Path.{_≡_}
 use Prim.Native.Nat.{ℕ, _+_, _/_, _%_, _≤_}
-use Rattle.definitions.specs.Chain.{Model, Chain, chainOf, flat, padded, uniformRate, maxReward, jumpMillionths}
+use Rattle.definitions.specs.declared.Sizes.{Sizes}
+use Rattle.definitions.specs.Chain.{Model, Chain, chainOf, flat, padded, sizesOf, jumpMillionths}
 use Rattle.definitions.specs.Vectors.{U}
 use Rattle.definitions.specs.Moment.{weightedMean}
 use Rattle.vectors.specs.Ready.{Ready}
@@ -11,23 +12,19 @@ use Rattle.vectors.specs.Ready.{Ready}
 unfoldable pub cellMean : Chain → ℕ → ℕ → ℕ → ℕ → ℕ
 cellMean ch X R N k = weightedMean X (λ n. U ch n (k % R + 1) (k / R)) N
 
--- the limits of document 01, of a chain in arrays, the highest moment, X and ε
-pub record Solvable (c f : List ℕ) (M E F R X ε : ℕ) : Type 0 where
-  pub ready : Ready c f M E F
-  pub highest-pos : 1 ≤ R
-  pub highest-max : R ≤ 8
+-- the limits of document 01, of a chain in arrays, X and ε
+pub record Solvable (z : Sizes) (c f : List ℕ) (X ε : ℕ) : Type 0 where
+  pub ready : Ready z c f
+  pub highest-pos : 1 ≤ z .highest
   pub jumps-pos : 1 ≤ X
   pub jumps-max : X ≤ 256000000
   pub tolerance-pos : 1 ≤ ε
   pub tolerance-max : ε ≤ 100000000
 
 -- the arrays and numbers that were read are those of a model
-pub record ReadAs (m : Model) (c f : List ℕ) (M E F R X ε : ℕ) : Type 0 where
+pub record ReadAs (m : Model) (z : Sizes) (c f : List ℕ) (X ε : ℕ) : Type 0 where
+  pub sizes : z ≡ sizesOf m
   pub entries : c ≡ flat (chainOf m)
   pub rewards : f ≡ padded (m .states) (m .reward)
-  pub states : M ≡ m .states
-  pub rate : E ≡ uniformRate m
-  pub largest : F ≡ maxReward m
-  pub highest : R ≡ m .highest
   pub jumps : X ≡ jumpMillionths m
   pub tolerance : ε ≡ m .tolerance

@@ -5,8 +5,9 @@ use Prim.Native.Nat.{ℕ, suc, _+_, _*_, _/_, _%_, _≤_, _<_}
 use native.Mathlib.Numerals.{add-one}
 use native.Mathlib.Omega.{arith}
 use lib.ListN.{getD}
+use Rattle.definitions.specs.declared.Sizes.{Sizes}
 use Rattle.definitions.specs.Sums.{firsts, over}
-use Rattle.definitions.specs.Chain.{Model, Chain, arrays, chainOf, padded, flat, uniformRate, maxReward, jumpMillionths}
+use Rattle.definitions.specs.Chain.{Model, Chain, arrays, chainOf, padded, flat, sizesOf, jumpMillionths}
 use Rattle.definitions.specs.Vectors.{U}
 use Rattle.definitions.specs.Weights.{weight, weightSum}
 use Rattle.definitions.specs.Level.{level}
@@ -32,9 +33,15 @@ mean-same X N u v h =
     ap (λ (a : ℕ). lastQuotient a (weightSum X N))
     (sum-same (suc N) (λ n. term (weight X n) (u n)) (λ n. term (weight X n) (v n)) (λ n l. ap (term (weight X n)) (h n (omega arith))))
 
-module _ (c f : List ℕ) (M E F R X ε : ℕ) (g : Solvable c f M E F R X ε) (w : List ℕ) (ew : w ≡ firsts 564 (weight X)) where
+module _ (z : Sizes) (c f : List ℕ) (X ε : ℕ) (g : Solvable z c f X ε) (w : List ℕ) (ew : w ≡ firsts 564 (weight X)) where
   abbrev ch : Chain
-  ch = arrays M E c f F
+  ch = arrays z c f
+
+  abbrev M : ℕ
+  M = z .states
+
+  abbrev R : ℕ
+  R = z .highest
 
   short : level X ε ≤ 563
   short = level-max X ε (g .jumps-max) (g .tolerance-pos)
@@ -42,12 +49,11 @@ module _ (c f : List ℕ) (M E F R X ε : ℕ) (g : Solvable c f M E F R X ε) (
   weight-in : (n : ℕ) → n ≤ level X ε → getD w n 0 ≡ weight X n
   weight-in n h = weight-at X n w ew (omega (arith, short))
 
-  pub summable : Summable c f M E F R w (level X ε)
+  pub summable : Summable z c f w (level X ε)
   summable =
       record {
         ready = g .ready;
         highest-pos = g .highest-pos;
-        highest-max = g .highest-max;
         level-max = short;
         weight-max = λ n h. rw (weight-in n h) (weight-max X n);
       }
@@ -56,7 +62,7 @@ module _ (c f : List ℕ) (M E F R X ε : ℕ) (g : Solvable c f M E F R X ε) (
   pub sum-is : (k : ℕ) → k < M * R → getD (partSums ch w R (level X ε + 1)) k 0 ≡ weighted X (λ n. U ch n (k % R + 1) (k / R)) (level X ε)
   unfolding partSum weighted
   sum-is k l =
-      sums-at ch w R (level X ε + 1) k (omega (arith, count-max M R (g .ready .states-max) (g .highest-max))) l
+      sums-at ch w R (level X ε + 1) k (omega (arith, count-max M R (g .ready .rewards .states-max) (g .ready .rewards .highest-max))) l
       ∙ ap (λ (n : ℕ). partSum ch w R n k) (add-one (level X ε))
       ∙ sum-same (suc (level X ε)) (λ j. term (getD w j 0) (U ch j (k % R + 1) (k / R))) (λ j. term (weight X j) (U ch j (k % R + 1) (k / R)))
       (λ j b. ap (λ (v : ℕ). term v (U ch j (k % R + 1) (k / R))) (weight-in j (omega arith)))
@@ -71,7 +77,7 @@ module _ (c f : List ℕ) (M E F R X ε : ℕ) (g : Solvable c f M E F R X ε) (
   divisible a S count ea es part =
       rw (ea, es)
       (record {
-        count-max = omega (arith, part, count-max M R (g .ready .states-max) (g .highest-max));
+        count-max = omega (arith, part, count-max M R (g .ready .rewards .states-max) (g .ready .rewards .highest-max));
         total-pos = omega (arith, weightSum-min X (level X ε) (level-mode X ε (g .jumps-max) (g .tolerance-pos)));
         total-max = omega (arith, weightSum-max X (level X ε), short);
         below = λ k l. rw (sum-is k (omega (arith, part))) (sum-max k (omega (arith, part)));
@@ -87,15 +93,14 @@ module _ (c f : List ℕ) (M E F R X ε : ℕ) (g : Solvable c f M E F R X ε) (
 
 module _ (m : Model) (g : Good m) where
   same : SameChain (held m) (chainOf m)
-  same = arrays-same (chainOf m) (g .states-max)
+  same = arrays-same m (g .states-max)
 
   -- the arrays of an accepted model are within the limits
-  pub solvable : Solvable (flat (chainOf m)) (padded (m .states) (m .reward)) (m .states) (uniformRate m) (maxReward m) (m .highest) (jumpMillionths m) (m .tolerance)
+  pub solvable : Solvable (sizesOf m) (flat (chainOf m)) (padded (m .states) (m .reward)) (jumpMillionths m) (m .tolerance)
   solvable =
       record {
         ready = model-ready m g;
         highest-pos = g .highest-pos;
-        highest-max = g .highest-max;
         jumps-pos = g .jumps-pos;
         jumps-max = g .jumps-max;
         tolerance-pos = g .tolerance-pos;
@@ -110,15 +115,14 @@ module _ (m : Model) (g : Good m) where
       (λ k l. mean-same (jumpMillionths m) (modelLevel m) _ _ (λ n h. U-same (held m) (chainOf m) same n (k % m .highest + 1) (k / m .highest) (state-of-cell k (m .states) (m .highest) (g .highest-pos) l)))
 
 -- what was read of a good model can be solved, and its solution is the model's level and moments
-module _ (m : Model) (g : Good m) (c f : List ℕ) (M E F R X ε : ℕ) (e : ReadAs m c f M E F R X ε) where
-  pub solvable-read : Solvable c f M E F R X ε
-  solvable-read =
-      rw (e .entries, e .rewards, e .states, e .rate, e .largest, e .highest, e .jumps, e .tolerance) (solvable m g)
+module _ (m : Model) (g : Good m) (z : Sizes) (c f : List ℕ) (X ε : ℕ) (e : ReadAs m z c f X ε) where
+  pub solvable-read : Solvable z c f X ε
+  solvable-read = rw (e .sizes, e .entries, e .rewards, e .jumps, e .tolerance) (solvable m g)
 
   pub level-read : level X ε ≡ modelLevel m
   unfolding modelLevel
   level-read = ap₂ level (e .jumps) (e .tolerance)
 
-  pub cells-read : (cells : List ℕ) → over (M * R) (cellMean (arrays M E c f F) X R (level X ε)) cells ≡ over (m .states * m .highest) (cell m (modelLevel m)) cells
+  pub cells-read : (cells : List ℕ) → over (z .states * z .highest) (cellMean (arrays z c f) X (z .highest) (level X ε)) cells ≡ over (m .states * m .highest) (cell m (modelLevel m)) cells
   cells-read cells =
-      rw (level-read, e .entries, e .rewards, e .states, e .rate, e .largest, e .highest, e .jumps) (means-of-model m g cells)
+      rw (level-read, e .sizes, e .entries, e .rewards, e .jumps) (means-of-model m g cells)

@@ -1,22 +1,23 @@
 // The moments of the accumulated reward: a file in, the level and the moments out.
 ghost use mathlib.Core.Path.{_≡_};
 ghost use Prim.Native.Nat.{_+_, _*_, _≤_};
-ghost use lib.ListN.{length, getD, replicate};
+ghost use lib.ListN.{length, getD};
 ghost use Rattle.definitions.specs.Sums.{over};
 ghost use Rattle.definitions.specs.Chain.{arrays, modelOf};
+ghost use Rattle.definitions.specs.Rules.{accepted};
 ghost use Rattle.definitions.specs.Vectors.{ONE};
 ghost use Rattle.definitions.specs.Weights.{GREATEST};
 ghost use Rattle.definitions.specs.Level.{level};
-ghost use Rattle.definitions.specs.Moment.{term, lastQuotient, modelLevel, outcome, cellsAfter};
+ghost use Rattle.definitions.specs.Moment.{term, lastQuotient, modelLevel, outcome, answerOf, cellsAfter};
 ghost use Rattle.definitions.specs.Promise.{Promised};
 ghost use Rattle.laws.specs.Acceptance.{Facts};
+ghost use Rattle.laws.specs.ArrayLaws.{zeros};
 ghost use Rattle.moments.specs.Solving.{cellMean, Solvable};
 ghost use Rattle.moments.specs.Running.{inTable, partSums, Addable, Summable, Divisible};
 use definitions::Judgement;
+use definitions::ONE;
 use definitions::Outcome;
-
-// ONE, in ticks.
-const ONE_IN_TICKS: u64 = 1_000_000_000_000;
+use definitions::Sizes;
 
 // A weight below this times ONE fits 64 bits.
 const SMALL_WEIGHT: u64 = 18_000_000;
@@ -27,23 +28,18 @@ fn one_term(w: u64, u: u64) -> u64
     ensures { λ r. ⌜ (r ≡ term w u) × (r ≤ w) ⌝ }
 {
     if w < SMALL_WEIGHT {
-        return w * u / ONE_IN_TICKS;
+        return w * u / ONE;
     }
-    muldiv::scaled(w, u, ONE_IN_TICKS)
+    muldiv::scaled(w, u, ONE)
 }
 
 // The sums A with the terms of one n added: w is w(n), and row r of the table is U(n,r).
-fn add_terms(
-    sums: [u64; 512],
-    table: [[u64; 64]; 9],
-    w: u64,
-    states: usize,
-    highest: usize,
-) -> [u64; 512]
-    requires { ⌜ Addable sums table w states highest ⌝ }
-    ensures { λ a. ⌜ a ≡ over (states * highest) (λ k. getD sums k 0 + term w (inTable table highest k)) sums ⌝ }
+fn add_terms(sizes: Sizes, w: u64, sums: [u64; 512], table: [[u64; 64]; 9]) -> [u64; 512]
+    requires { ⌜ Addable sizes w sums table ⌝ }
+    ensures { λ a. ⌜ a ≡ over (sizes .states * sizes .highest) (λ k. getD sums k 0 + term w (inTable table (sizes .highest) k)) sums ⌝ }
 {
-    let count = states * highest;
+    let highest = sizes.highest;
+    let count = sizes.states * highest;
     let mut next = sums;
     for k in 0..count {
         let r = k % highest + 1;
@@ -55,33 +51,30 @@ fn add_terms(
 
 // The sums before any term.
 fn no_sums() -> [u64; 512]
-    ensures { λ r. ⌜ r ≡ replicate 512 0 ⌝ }
+    ensures { λ r. ⌜ r ≡ zeros 512 ⌝ }
 {
     [0u64; 512]
 }
 
 // A for all cells: the sums over n = 0 to N of w(n) * U(n,r) over 10^12. The vectors of each n are computed once.
 fn accumulate(
+    sizes: Sizes,
     chain: &[u64; 4096],
     rewards: &[u64; 64],
-    states: usize,
-    rate: u64,
-    largest: u64,
-    highest: usize,
     weights: &[u64; 564],
     level: u64,
 ) -> [u64; 512]
-    requires { ⌜ Summable (now chain) (now rewards) states rate largest highest (now weights) level ⌝ }
-    ensures { λ a. ⌜ a ≡ partSums (arrays states rate (now (chain .entry)) (now (rewards .entry)) largest) (now (weights .entry)) highest (level + 1) ⌝ }
+    requires { ⌜ Summable sizes (now chain) (now rewards) (now weights) level ⌝ }
+    ensures { λ a. ⌜ a ≡ partSums (arrays sizes (now (chain .entry)) (now (rewards .entry))) (now (weights .entry)) (sizes .highest) (level + 1) ⌝ }
 {
-    let mut table = vectors::first_table(rewards, states, largest, highest);
-    let mut sums = add_terms(no_sums(), table, weights[0], states, highest);
+    let mut table = vectors::first_table(sizes, rewards);
+    let mut sums = add_terms(sizes, weights[0], no_sums(), table);
     let mut n: u64 = 0;
     while n < level {
         n += 1;
-        let next = vectors::next_table(chain, rewards, states, rate, largest, highest, n, table);
+        let next = vectors::next_table(sizes, chain, rewards, n, table);
         table = next;
-        let more = add_terms(sums, table, weights[n as usize], states, highest);
+        let more = add_terms(sizes, weights[n as usize], sums, table);
         sums = more;
     }
     sums
@@ -93,76 +86,51 @@ fn write_moments(sums: &[u64; 512], total: u64, count: usize, cells: &mut [u64])
     ensures { λ r. ⌜ now (cells .exit) ≡ over count (λ k. lastQuotient (getD (now (sums .entry)) k 0) total) (now (cells .entry)) ⌝ }
 {
     for k in 0..count {
-        cells[k] = muldiv::scaled(sums[k], ONE_IN_TICKS, total);
+        cells[k] = muldiv::scaled(sums[k], ONE, total);
     }
 }
 
 // The level of X and ε, and the moments of a chain in arrays, written into the cells.
 fn solve(
+    sizes: Sizes,
     chain: &[u64; 4096],
     rewards: &[u64; 64],
-    states: usize,
-    rate: u64,
-    largest: u64,
-    highest: usize,
     x: u64,
     tolerance: u64,
     cells: &mut [u64],
 ) -> u64
-    requires { ⌜ Solvable (now chain) (now rewards) states rate largest highest x tolerance × (states * highest ≤ length (now cells)) ⌝ }
-    ensures { λ n. ⌜ (n ≡ level x tolerance) × (now (cells .exit) ≡ over (states * highest) (cellMean (arrays states rate (now (chain .entry)) (now (rewards .entry)) largest) x highest (level x tolerance)) (now (cells .entry))) ⌝ }
+    requires { ⌜ Solvable sizes (now chain) (now rewards) x tolerance × (sizes .states * sizes .highest ≤ length (now cells)) ⌝ }
+    ensures { λ n. ⌜ (n ≡ level x tolerance) × (now (cells .exit) ≡ over (sizes .states * sizes .highest) (cellMean (arrays sizes (now (chain .entry)) (now (rewards .entry))) x (sizes .highest) (level x tolerance)) (now (cells .entry))) ⌝ }
 {
     let weights = poisson::weights(x);
     let cut = poisson::truncate(&weights, x, tolerance);
     let level = cut.level;
-    let sums = accumulate(
-        chain,
-        rewards,
-        states,
-        rate,
-        largest,
-        highest,
-        &weights,
-        level,
-    );
-    write_moments(&sums, cut.sum, states * highest, cells);
+    let sums = accumulate(sizes, chain, rewards, &weights, level);
+    write_moments(&sums, cut.sum, sizes.states * sizes.highest, cells);
     level
 }
 
 // The level and the moments of an accepted file: what it states is read once, row by row.
 fn fill(file: &[u8], cells: &mut [u64]) -> u64
     requires { ⌜ Facts (now file) (length (now cells)) ⌝ }
-    ensures { λ n. ⌜ (n ≡ modelLevel (modelOf (now (file .entry)))) × (now (cells .exit) ≡ cellsAfter (Outcome.Level n) (now (file .entry)) (now (cells .entry))) ⌝ }
+    ensures { λ n. ⌜ (n ≡ modelLevel (modelOf (now (file .entry)))) × (now (cells .exit) ≡ cellsAfter (accepted n) (now (file .entry)) (now (cells .entry))) ⌝ }
 {
-    let states = reader::state_count(file);
     let sums = reader::row_sums(file);
-    let rate = reader::uniform_rate(&sums, states);
-    let chain = reader::chain_of(file, &sums, rate);
+    let sizes = reader::sizes_of(file, &sums);
+    let chain = reader::chain_of(file, &sums, sizes.rate);
     let rewards = reader::rewards_of(file);
-    let largest = reader::max_reward(file);
-    let highest = reader::highest_moment(file);
-    let x = reader::jump_millionths(file, rate);
+    let x = reader::jump_millionths(sizes.rate, reader::time(file));
     let tolerance = reader::tolerance(file);
-    solve(
-        &chain,
-        &rewards,
-        states,
-        rate,
-        largest,
-        highest,
-        x,
-        tolerance,
-        cells,
-    )
+    solve(sizes, &chain, &rewards, x, tolerance, cells)
 }
 
 // The call: the first row of the table of refusals that holds, with no cell touched; or the level N,
 // with moment r of state i, counted from 1, in cell (i - 1) * R + (r - 1) and the cells past the last
 // moment as they were. The moments are within the tolerance and the rounding of the exact averages.
 pub fn calculate(file: &[u8], cells: &mut [u64]) -> Outcome
-    ensures outcome { λ o. ⌜ o ≡ outcome (now (file .entry)) (length (now (cells .entry))) ⌝ }
-    ensures cells { λ o. ⌜ now (cells .exit) ≡ cellsAfter o (now (file .entry)) (now (cells .entry)) ⌝ }
-    ensures promise { λ o. ⌜ Promised o (now (file .entry)) (now (cells .exit)) ⌝ }
+    ensures outcome { λ o. ⌜ answerOf o ≡ outcome (now (file .entry)) (length (now (cells .entry))) ⌝ }
+    ensures cells { λ o. ⌜ now (cells .exit) ≡ cellsAfter (answerOf o) (now (file .entry)) (now (cells .entry)) ⌝ }
+    ensures promise { λ o. ⌜ Promised (answerOf o) (now (file .entry)) (now (cells .exit)) ⌝ }
 {
     let judgement = reader::judge(file, cells.len());
     match judgement {

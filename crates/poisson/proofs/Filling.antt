@@ -1,87 +1,52 @@
 -- The array of weights as it fills, over plain lists. Assumes nothing.
-use mathlib.Core.Path.{_≡_, _∙_, sym, ap}
+use mathlib.Core.Path.{_≡_, _∙_, sym, ap₂}
 use mathlib.Core.List.{List}
-use Prim.Native.Nat.{ℕ, _+_, _-_, _*_, _/_, _≤_, _<_}
+use Prim.Native.Nat.{ℕ, _+_, _-_, _*_, _≤_, _<_}
 use native.Mathlib.Omega.{arith}
-use native.Mathlib.Nat.{mul-assoc}
-use native.Mathlib.Decide.{ℕ-discrete, decLt}
-use lib.ListN.{length, getD, set, replicate, length-set, length-replicate, getD-replicate, List·getD-eq-default}
-use lib.Seq.{getD-set-same, getD-set-other}
-use Rattle.definitions.specs.Sums.{firsts}
-use Rattle.definitions.specs.Weights.{GREATEST, MILLION, mode, weight}
-use Rattle.laws.specs.ListLaws.{firsts-of}
-use Rattle.laws.specs.WeightLaws.{weight-gone, weight-left, weight-mode}
-use Rattle.poisson.specs.Stages.{Holds}
+use native.Mathlib.Nat.{le-refl}
+use native.Mathlib.Decide.{decLt}
+use lib.ListN.{getD, set}
+use borrow.Author.Tests.{lt-ltb, le-ltb}
+use Rattle.definitions.specs.Sums.{firsts, over}
+use Rattle.definitions.specs.Weights.{GREATEST, mode, weight}
+use Rattle.laws.specs.ListLaws.{firsts-same, firsts-store, getD-firsts, getD-over, over-none, over-store, over-further}
+use Rattle.laws.specs.ArrayLaws.{zeros, length-zeros, zero-at, over-zeros}
+use Rattle.laws.specs.WeightLaws.{weight-gone, weight-mode}
+use Rattle.poisson.specs.Stages.{LEVELS, weightsFrom}
 
--- leftward, the divisor's million beside n: w(n − 1) = w(n) × (n × 1,000,000) over X, down
-pub weight-before : (X n : ℕ) → 1 ≤ n → n ≤ mode X → weight X (n - 1) ≡ weight X n * (n * MILLION) / X
-weight-before X n pos low =
-    let here : n - 1 + 1 ≡ n = omega arith in
-    weight-left X (n - 1) (omega arith) ∙ rw (here, mul-assoc)
+module _ (m X : ℕ) where
+  below : (i : ℕ) → i < m → weightsFrom m X i ≡ 0
+  unfolding weightsFrom
+  below i l = rw (lt-ltb i m l)
 
--- an entry after a store, at its place and elsewhere
-at-store : (w : List ℕ) (k i v : ℕ) → k < length w → i ≡ k → getD (set w k v) i 0 ≡ v
-at-store w k i v h e = rw e (getD-set-same w k v 0 h)
+  pub above : (i : ℕ) → m ≤ i → weightsFrom m X i ≡ weight X i
+  unfolding weightsFrom
+  above i l = rw (le-ltb i m l)
 
--- no weight yet: all zeros
-pub no-weights : (X from : ℕ) → Holds X from from (replicate 564 0)
-no-weights X from =
-    record {
-      entries = length-replicate {A = ℕ} 564 0;
-      filled = λ i low high. absurd (omega arith);
-      empty = λ i low. zero-at i (decLt i 564);
-    }
-  where
-    zero-at : (i : ℕ) → Dec (i < 564) → _≡_ {A = ℕ} (getD (replicate 564 0) i 0) 0
-    zero-at i (yes h) = getD-replicate 564 i 0 0 h
-    zero-at i (no h) = List·getD-eq-default (replicate 564 0) 0 {n = i} (omega (arith, h, length-replicate {A = ℕ} 564 0))
+  -- w(m) in an array of zeros
+  pub first : m ≡ mode X → m < LEVELS → set (zeros LEVELS) m GREATEST ≡ over (m + 1) (weightsFrom m X) (zeros LEVELS)
+  first e room =
+      over-store m (weightsFrom m X) (zeros LEVELS) (zeros LEVELS) GREATEST (omega (arith, length-zeros LEVELS))
+      (sym (over-none (weightsFrom m X) (zeros LEVELS)) ∙ over-further 0 0 m (weightsFrom m X) (zeros LEVELS) (omega arith) (omega (arith, length-zeros LEVELS)) (λ k p l. below k l ∙ sym (zero-at LEVELS k)))
+      (sym (above m (le-refl m) ∙ rw e (weight-mode X)))
 
-module _ (X from to v : ℕ) (w : List ℕ) (held : Holds X from to w) where
-  -- one weight more on the right
-  pub one-right : to < 564 → v ≡ weight X to → Holds X from (to + 1) (set w to v)
-  one-right room e =
-      record {
-        entries = length-set w to v ∙ held .entries;
-        filled = λ i low high. entry i low high (ℕ-discrete i to);
-        empty = λ i low. getD-set-other w to i v 0 (λ q. omega arith) ∙ held .empty i (omega arith);
-      }
-    where
-      entry : (i : ℕ) → from ≤ i → i < to + 1 → Dec (i ≡ to) → getD (set w to v) i 0 ≡ weight X i
-      entry i low high (yes q) = at-store w to i v (omega (arith, held .entries)) q ∙ e ∙ ap (weight X) (sym q)
-      entry i low high (no d) = getD-set-other w to i v 0 d ∙ held .filled i low (omega (arith, d))
-
-  -- one weight more on the left
-  pub one-left : 0 < from → from ≤ to → to ≤ 564 → v ≡ weight X (from - 1) → Holds X (from - 1) to (set w (from - 1) v)
-  one-left pos below room e =
-      record {
-        entries = length-set w (from - 1) v ∙ held .entries;
-        filled = λ i low high. entry i low high (ℕ-discrete i (from - 1));
-        empty = λ i low. getD-set-other w (from - 1) i v 0 (λ q. omega arith) ∙ held .empty i low;
-      }
-    where
-      entry : (i : ℕ) → from - 1 ≤ i → i < to → Dec (i ≡ from - 1) → getD (set w (from - 1) v) i 0 ≡ weight X i
-      entry i low high (yes q) = at-store w (from - 1) i v (omega (arith, held .entries)) q ∙ e ∙ ap (weight X) (sym q)
-      entry i low high (no d) = getD-set-other w (from - 1) i v 0 d ∙ held .filled i (omega (arith, d)) high
-
--- 10^15 at m alone
-pub greatest-at : (X k : ℕ) → k ≡ mode X → k < 564 → Holds X (mode X) (mode X + 1) (set (replicate 564 0) k GREATEST)
-greatest-at X k e room =
-    rw e (one-right X (mode X) (mode X) GREATEST (replicate 564 0) (no-weights X (mode X)) (omega arith) (sym (weight-mode X)))
-
-module _ (X from : ℕ) (w : List ℕ) where
   -- past 2m + 51 the zeros are the weights
-  pub gone : (to : ℕ) → 2 * mode X + 51 ≤ to → to ≤ 564 → Holds X from to w → Holds X from 564 w
-  gone to far room held =
-      record {
-        entries = held .entries;
-        filled = λ i low high. entry i low (decLt i to);
-        empty = λ i low. held .empty i (omega arith);
-      }
-    where
-      entry : (i : ℕ) → from ≤ i → Dec (i < to) → getD w i 0 ≡ weight X i
-      entry i low (yes h) = held .filled i low h
-      entry i low (no h) = held .empty i (omega (arith, h)) ∙ sym (weight-gone X i (omega (arith, h)))
+  pub gone : (n : ℕ) (w : List ℕ) → m ≡ mode X → 2 * m + 51 ≤ n → n ≤ LEVELS → w ≡ over n (weightsFrom m X) (zeros LEVELS) → w ≡ firsts LEVELS (weightsFrom (mode X) X)
+  gone n w e far room so = rw (← e) (so ∙ over-zeros n LEVELS (weightsFrom m X) room (λ k p l. above k (omega arith) ∙ weight-gone X k (omega arith)))
+
+-- one weight more on the left
+pub one-left : (n X : ℕ) (w : List ℕ) (v : ℕ) → 1 ≤ n → n ≤ LEVELS → w ≡ firsts LEVELS (weightsFrom n X) → v ≡ weight X (n - 1) → set w (n - 1) v ≡ firsts LEVELS (weightsFrom (n - 1) X)
+one-left n X w v pos room so e =
+    ap₂ (λ (l : List ℕ) (x : ℕ). set l (n - 1) x) so (e ∙ sym (above (n - 1) X (n - 1) (le-refl (n - 1))))
+    ∙ firsts-store 0 LEVELS (weightsFrom n X) (weightsFrom (n - 1) X) (n - 1) (omega arith) (λ i l d. other i d)
+  where
+    other : (i : ℕ) → (i ≡ n - 1 → ⊥) → weightsFrom n X i ≡ weightsFrom (n - 1) X i
+    other i d =
+        elim (decLt i n) [
+          | yes l ↦ below n X i l ∙ sym (below (n - 1) X i (omega (arith, d)))
+          | no q ↦ above n X i (omega (arith, q)) ∙ sym (above (n - 1) X i (omega (arith, q)))
+        ]
 
 -- from 0 on: the definition at every index
-pub all-weights : (X : ℕ) (w : List ℕ) → Holds X 0 564 w → w ≡ firsts 564 (weight X)
-all-weights X w held = firsts-of 564 (weight X) w (held .entries) (λ i h. held .filled i (omega arith) h)
+pub all-weights : (X : ℕ) → firsts LEVELS (weightsFrom 0 X) ≡ firsts LEVELS (weight X)
+all-weights X = firsts-same LEVELS (weightsFrom 0 X) (weight X) (λ i l. above 0 X i (omega arith))

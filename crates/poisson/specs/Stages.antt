@@ -1,16 +1,18 @@
 -- The array of weights while it is filled, and what `truncate` returns.
 use mathlib.Core.Path.{_≡_}
-use mathlib.Core.List.{List}
-use Prim.Native.Nat.{ℕ, _≤_, _<_}
-use lib.ListN.{length, getD}
+use Prim.Native.Nat.{ℕ}
+use lib.Dec.{ltb}
+use Rattle.definitions.specs.Sums.{pick}
 use Rattle.definitions.specs.Weights.{weight, weightSum}
 use Rattle.definitions.specs.Level.{level}
 
--- w holds the weights from the index `from` up to `to`, and zeros from `to` on
-pub record Holds (X from to : ℕ) (w : List ℕ) : Type 0 where
-  pub entries : length w ≡ 564
-  pub filled : (i : ℕ) → from ≤ i → i < to → getD w i 0 ≡ weight X i
-  pub empty : (i : ℕ) → to ≤ i → getD w i 0 ≡ 0
+-- the length of the array: the levels 0 to 563
+abbrev pub LEVELS : ℕ
+LEVELS = 564
+
+-- the weights from the index m on, and 0 below it
+unfoldable pub weightsFrom : ℕ → ℕ → ℕ → ℕ
+weightsFrom m X i = pick (ltb i m) 0 (weight X i)
 
 -- N is the level of X and the tolerance ε, and S is S(N)
 pub record Truncated (X ε N S : ℕ) : Type 0 where

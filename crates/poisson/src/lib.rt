@@ -8,7 +8,7 @@ ghost use Prim.Native.Nat.{_+_, _-_, _≤_, _<_};
 ghost use Rattle.definitions.specs.Sums.{firsts};
 ghost use Rattle.definitions.specs.Weights.{mode, weight, weightSum};
 ghost use Rattle.definitions.specs.Level.{passes?};
-ghost use Rattle.poisson.specs.Stages.{Holds, Truncated};
+ghost use Rattle.poisson.specs.Stages.{LEVELS, weightsFrom, Truncated};
 
 // One jump in millionths.
 const MILLION: u64 = 1_000_000;
@@ -22,36 +22,26 @@ const BILLION: u64 = 1_000_000_000;
 // Levels 0 to 563: x is at most 256,000,000, so m is at most 256, and no level is above 2m + 51.
 pub const LEVELS: usize = 564;
 
-// w(0) to w(563).
+// w(0) to w(563): first those from m on. Past 2m + 51 they are 0.
 pub fn weights(x: u64) -> [u64; LEVELS]
     requires { ⌜ (1 ≤ x) × (x ≤ 256000000) ⌝ }
-    ensures { λ r. ⌜ r ≡ firsts 564 (weight x) ⌝ }
-{
-    let mut w = [0u64; LEVELS];
-    w[mode_of(x) as usize] = GREATEST;
-    let right = rightward(x, w);
-    leftward(x, right)
-}
-
-// The weights right of m, in an array that has w(m) alone. Past 2m + 51 they are 0, as it is there.
-fn rightward(x: u64, w: [u64; LEVELS]) -> [u64; LEVELS]
-    requires { ⌜ (x ≤ 256000000) × Holds x (mode x) (mode x + 1) w ⌝ }
-    ensures { λ r. ⌜ Holds x (mode x) 564 r ⌝ }
+    ensures { λ r. ⌜ r ≡ firsts LEVELS (weight x) ⌝ }
 {
     let m = mode_of(x) as usize;
-    let mut w = w;
+    let mut w = [0u64; LEVELS];
+    w[m] = GREATEST;
     let mut n = m;
     while n < 2 * m + 51 {
         w[n + 1] = step_right(w[n], x, n as u64);
         n += 1;
     }
-    w
+    leftward(x, w)
 }
 
 // The weights left of m, in an array that has the others.
 fn leftward(x: u64, w: [u64; LEVELS]) -> [u64; LEVELS]
-    requires { ⌜ (x ≤ 256000000) × Holds x (mode x) 564 w ⌝ }
-    ensures { λ r. ⌜ r ≡ firsts 564 (weight x) ⌝ }
+    requires { ⌜ (x ≤ 256000000) × (w ≡ firsts LEVELS (weightsFrom (mode x) x)) ⌝ }
+    ensures { λ r. ⌜ r ≡ firsts LEVELS (weight x) ⌝ }
 {
     let mut w = w;
     let mut n = mode_of(x) as usize;
@@ -71,7 +61,7 @@ fn mode_of(x: u64) -> u64
 
 // w(n + 1), given w(n), for n from m on.
 fn step_right(w: u64, x: u64, n: u64) -> u64
-    requires { ⌜ (w ≡ weight x n) × (mode x ≤ n) × (n < 563) ⌝ }
+    requires { ⌜ (w ≡ weight x n) × (mode x ≤ n) × (n + 1 < LEVELS) ⌝ }
     ensures { λ r. ⌜ r ≡ weight x (n + 1) ⌝ }
 {
     muldiv::scaled(w, x, (n + 1) * MILLION)
@@ -93,7 +83,7 @@ pub struct Truncation {
 
 // The least n that passes, and S(n). 2m + 51 passes, so the search ends there at the latest.
 pub fn truncate(weights: &[u64; LEVELS], x: u64, tolerance: u64) -> Truncation
-    requires { ⌜ (now weights ≡ firsts 564 (weight x)) × (1 ≤ x) × (x ≤ 256000000) × (1 ≤ tolerance) × (tolerance ≤ 100000000) ⌝ }
+    requires { ⌜ (now weights ≡ firsts LEVELS (weight x)) × (1 ≤ x) × (x ≤ 256000000) × (1 ≤ tolerance) × (tolerance ≤ 100000000) ⌝ }
     ensures { λ r. ⌜ Truncated x tolerance (r .level) (r .sum) ⌝ }
 {
     let mut n: u64 = 0;
@@ -111,7 +101,7 @@ pub fn truncate(weights: &[u64; LEVELS], x: u64, tolerance: u64) -> Truncation
 // Whether n passes, given w(n) and S(n): n jumps are at least q, and t, the bound on the weights
 // past n, is at most S(n) times the tolerance. Below q the divisor of t could be 0.
 fn passes(w: u64, sum: u64, x: u64, n: u64, tolerance: u64) -> bool
-    requires { ⌜ (w ≡ weight x n) × (sum ≡ weightSum x n) × (n ≤ 563) × (x ≤ 256000000) × (tolerance ≤ 100000000) ⌝ }
+    requires { ⌜ (w ≡ weight x n) × (sum ≡ weightSum x n) × (n < LEVELS) × (x ≤ 256000000) × (tolerance ≤ 100000000) ⌝ }
     ensures { λ r. ⌜ r ≡ passes? x tolerance n ⌝ }
 {
     let m = mode_of(x);

@@ -1,4 +1,4 @@
--- A file whose length is right for its number of states: what the functions past the header ask of it.
+-- Where the rewards and the rows of rates lie in a framed file.
 use Prim.Native.Nat.{ℕ, _+_, _*_, _-_, _≤_, _<_}
 use native.Mathlib.Omega.{arith}
 use native.Mathlib.Nat.{mul-le-mul-left}
@@ -8,25 +8,11 @@ use mathlib.Core.List.{List}
 use lib.ListN.{length, drop, length-drop}
 use lib.Dec.{eqb}
 use borrow.Author.Tests.{lt-ltb, le-ltb}
-use Rattle.definitions.specs.File.{lengthField, stateCount, rewardsAt, rowAt, place, rateField}
+use Rattle.definitions.specs.File.{stateCount, rewardsAt, rowAt, place, rateField}
 use Rattle.definitions.specs.Sums.{pick}
 use Rattle.definitions.specs.Bytes.{big}
-use Rattle.laws.specs.Acceptance.{Facts}
+use Rattle.laws.specs.Acceptance.{Framed}
 use Rattle.reader.specs.Big.{big-drop}
-
--- 1 ≤ M ≤ 64, and the bytes of M rewards and M rows of M − 1 rates stand after the header's 13
-pub record Framed (s : List ℕ) : Type 0 where
-  pub states-min : 1 ≤ stateCount s
-  pub states-max : stateCount s ≤ 64
-  pub size : length s ≡ 4 * stateCount s * stateCount s + 13
-
--- the header's length, compared with the bytes and with M
-pub framed-by : (s : List ℕ) → 13 ≤ length s → 1 ≤ stateCount s → stateCount s ≤ 64 → lengthField s ≡ length s - 2 → lengthField s ≡ 4 * stateCount s * stateCount s + 11 → Framed s
-framed-by s header least most after sized = record { states-min = least; states-max = most; size = omega arith }
-
--- an accepted file is framed
-pub framed : (s : List ℕ) (cells : ℕ) → Facts s cells → Framed s
-framed s cells f = framed-by s (f .header) (f .good .states-pos) (f .good .states-max) (f .framed) (f .sized)
 
 -- the reward of a state lies in the file
 pub reward-room : (s : List ℕ) (i : ℕ) → Framed s → i < stateCount s → rewardsAt + 4 * i + 4 ≤ length s

@@ -11,21 +11,22 @@ use Rattle.definitions.specs.Sums.{over, pick}
 use Rattle.definitions.specs.File.{stateCount, rowAt, place}
 use Rattle.definitions.specs.Bytes.{big}
 use Rattle.definitions.specs.Chain.{modelOf, rowSum, uniformRate, c, Chain, chainOf, flat}
-use Rattle.laws.specs.ListLaws.{over-none, over-more}
-use Rattle.laws.specs.ArrayLaws.{zeros, length-zeros, over-zeros, over-zeros-all}
-use Rattle.reader.specs.Framed.{Framed, entry-in-row}
+use Rattle.laws.specs.ListLaws.{over-none, over-store, over-further}
+use Rattle.laws.specs.ArrayLaws.{zeros, length-zeros, zero-at, over-zeros}
+use Rattle.laws.specs.Acceptance.{Framed}
+use Rattle.reader.specs.Framed.{entry-in-row}
 
 -- entry k of the array
 unfoldable pub chainAt : Chain → ℕ → ℕ
 chainAt ch k = pick (ltb (k / 64) (ch .states) && ltb (k % 64) (ch .states)) (ch .entry (k / 64) (k % 64)) 0
 
 -- the array with its first k entries written
-unfoldable pub written : List ℕ → ℕ → List ℕ
-written s k = over k (chainAt (chainOf (modelOf s))) (zeros 4096)
+unfoldable pub filledTo : List ℕ → ℕ → List ℕ
+filledTo s k = over k (chainAt (chainOf (modelOf s))) (zeros 4096)
 
 -- the array with its first i rows written
 abbrev pub chainRows : List ℕ → ℕ → List ℕ
-chainRows s i = written s (i * 64)
+chainRows s i = filledTo s (i * 64)
 
 -- what a call that writes row i asks
 pub record WritesRow (s : List ℕ) (i diagonal : ℕ) (chain : List ℕ) : Type 0 where
@@ -34,9 +35,9 @@ pub record WritesRow (s : List ℕ) (i diagonal : ℕ) (chain : List ℕ) : Type
   pub stays : diagonal ≡ uniformRate (modelOf s) - rowSum (modelOf s) i
   pub earlier : chain ≡ chainRows s i
 
-pub written-none : (s : List ℕ) → zeros 4096 ≡ written s 0
-unfolding written
-written-none s = sym (over-none (chainAt (chainOf (modelOf s))) (zeros 4096))
+pub filled-none : (s : List ℕ) → zeros 4096 ≡ filledTo s 0
+unfolding filledTo
+filled-none s = sym (over-none (chainAt (chainOf (modelOf s))) (zeros 4096))
 
 -- c(i,j) stands at 64 × i + j
 pub chain-at : (ch : Chain) (i j : ℕ) → ch .states ≤ 64 → i < ch .states → j < ch .states → chainAt ch (i * 64 + j) ≡ ch .entry i j
@@ -50,22 +51,24 @@ chain-at ch i j h li lj = rw (row, column, lt-ltb i (ch .states) li, lt-ltb j (c
     column = omega arith
 
 -- one entry more
-pub written-more : (s : List ℕ) (k x : ℕ) → k < 4096 → x ≡ chainAt (chainOf (modelOf s)) k → set (written s k) k x ≡ written s (k + 1)
-unfolding written
-written-more s k x l e = rw e (over-more k (chainAt (chainOf (modelOf s))) (zeros 4096) (omega (arith, length-zeros 4096)))
+pub filled-more : (s : List ℕ) (k x : ℕ) → k < 4096 → x ≡ chainAt (chainOf (modelOf s)) k → set (filledTo s k) k x ≡ filledTo s (k + 1)
+unfolding filledTo
+filled-more s k x l e = over-store k (chainAt (chainOf (modelOf s))) (zeros 4096) _ x (omega (arith, length-zeros 4096)) refl e
 
 -- past the M entries of a row its 64 places hold 0: the row is whole
-pub row-done : (s : List ℕ) (i : ℕ) → stateCount s ≤ 64 → i < stateCount s → written s (i * 64 + stateCount s) ≡ chainRows s (i + 1)
-unfolding written
-row-done s i h l = over-zeros (i * 64 + stateCount s) ((i + 1) * 64) 4096 (chainAt (chainOf (modelOf s))) (omega arith) (omega arith) idle
+pub row-done : (s : List ℕ) (i : ℕ) → stateCount s ≤ 64 → i < stateCount s → filledTo s (i * 64 + stateCount s) ≡ chainRows s (i + 1)
+unfolding filledTo
+row-done s i h l =
+    over-further 0 (i * 64 + stateCount s) ((i + 1) * 64) (chainAt (chainOf (modelOf s))) (zeros 4096) (omega arith) (omega (arith, length-zeros 4096))
+    (λ k low high. idle k low high ∙ sym (zero-at 4096 k))
   where
     idle : (k : ℕ) → i * 64 + stateCount s ≤ k → k < (i + 1) * 64 → chainAt (chainOf (modelOf s)) k ≡ 0
     idle k low high = unfold chainAt in rw (lt-ltb (k / 64) (stateCount s) (omega arith), le-ltb (k % 64) (stateCount s) (omega arith)) refl
 
 -- past the M rows the array holds 0: it is whole
 pub rows-done : (s : List ℕ) → stateCount s ≤ 64 → chainRows s (stateCount s) ≡ flat (chainOf (modelOf s))
-unfolding written flat
-rows-done s h = over-zeros-all (stateCount s * 64) 4096 (chainAt (chainOf (modelOf s))) (omega arith) idle ∙ (unfold chainAt in refl)
+unfolding filledTo flat
+rows-done s h = over-zeros (stateCount s * 64) 4096 (chainAt (chainOf (modelOf s))) (omega arith) idle ∙ (unfold chainAt in refl)
   where
     idle : (k : ℕ) → stateCount s * 64 ≤ k → k < 4096 → chainAt (chainOf (modelOf s)) k ≡ 0
     idle k low high = unfold chainAt in rw (le-ltb (k / 64) (stateCount s) (omega arith)) refl

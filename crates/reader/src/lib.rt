@@ -1,22 +1,25 @@
 // The reader of a model file: what stops it, and the model and the chain that it states.
 //
 // Document 01 counts bytes from 0 and numbers are big-endian. A file is a slice of any length. The
-// functions past the header ask that it is framed: M is 1 to 64, and the file is as long as M says.
-// `judge` asks nothing, and a file that it accepts is framed (specs/Framed.antt).
+// functions past the header ask that it is framed (`Framed` in the crate laws): M is 1 to 64, and the
+// file is as long as M says. `judge` and `judge_model` ask nothing, and a file that they accept is framed.
 ghost use mathlib.Core.Path.{_≡_};
 ghost use mathlib.Core.Bool.{_||_};
+ghost use mathlib.Core.List.{_++_};
 ghost use Prim.Native.Nat.{max, _+_, _-_, _*_, _≤_, _<_, _^_};
 ghost use lib.Dec.{eqb, ltb};
 ghost use lib.ListN.{length, drop, getD};
 ghost use Rattle.definitions.specs.Sums.{largest, pick};
 ghost use Rattle.definitions.specs.Bytes.{big};
 ghost use Rattle.definitions.specs.File.{stateCount, highestMoment, toleranceField, timeField, rewardsAt, rewardField, rowAt, place};
-ghost use Rattle.definitions.specs.Chain.{modelOf, rowSum, uniformRate, maxReward, jumpMillionths, chainOf, padded, flat};
-ghost use Rattle.definitions.specs.Rules.{rows, firstHeld, judgement};
-ghost use Rattle.reader.specs.Framed.{Framed};
+ghost use Rattle.definitions.specs.Chain.{modelOf, rowSum, uniformRate, maxReward, chainOf, padded, flat, sizesOf};
+ghost use Rattle.definitions.specs.Rules.{framing, quantities, jumps, room, firstHeld, judgedBy, judgement, verdict};
+ghost use Rattle.laws.specs.Acceptance.{Framed};
 ghost use Rattle.laws.specs.ArrayLaws.{zeros, entryOf};
+ghost use Rattle.reader.specs.Rated.{ratedAs};
 ghost use Rattle.reader.specs.Rows.{chainRows, WritesRow};
 use definitions::Judgement;
+use definitions::Sizes;
 
 // 1. Where the file's numbers stand. No offset is written anywhere else.
 
@@ -141,7 +144,7 @@ fn largest_of(values: &[u64; 64], count: usize) -> u64
 }
 
 // F, the largest reward rate.
-pub fn max_reward(file: &[u8]) -> u64
+fn max_reward(file: &[u8]) -> u64
     requires { ⌜ Framed (now file) ⌝ }
     ensures { λ r. ⌜ r ≡ maxReward (modelOf (now (file .entry))) ⌝ }
 {
@@ -202,20 +205,34 @@ pub fn row_sums(file: &[u8]) -> [u64; 64]
 }
 
 // E, the uniformization rate: the largest row sum, or 1 where all row sums are 0.
-pub fn uniform_rate(sums: &[u64; 64], states: usize) -> u64
-    requires { ⌜ states ≤ 64 ⌝ }
-    ensures { λ r. ⌜ r ≡ max 1 (largest states (entryOf (now (sums .entry)))) ⌝ }
+fn uniform_rate(file: &[u8], sums: &[u64; 64]) -> u64
+    requires { ⌜ Framed (now file) ⌝ }
+    requires { ⌜ now sums ≡ padded (stateCount (now file)) (rowSum (modelOf (now file))) ⌝ }
+    ensures { λ r. ⌜ r ≡ uniformRate (modelOf (now (file .entry))) ⌝ }
 {
-    larger(1, largest_of(sums, states))
+    larger(1, largest_of(sums, state_count(file)))
 }
 
-// X = E × T, the expected jump count in millionths.
-pub fn jump_millionths(file: &[u8], rate: u64) -> u64
-    requires { ⌜ 13 ≤ length (now file) ⌝ }
-    requires { ⌜ (rate ≡ uniformRate (modelOf (now file))) × (rate < 2 ^ 32) ⌝ }
-    ensures { λ r. ⌜ r ≡ jumpMillionths (modelOf (now (file .entry))) ⌝ }
+// M, R, E and F.
+pub fn sizes_of(file: &[u8], sums: &[u64; 64]) -> Sizes
+    requires { ⌜ Framed (now file) ⌝ }
+    requires { ⌜ now sums ≡ padded (stateCount (now file)) (rowSum (modelOf (now file))) ⌝ }
+    ensures { λ r. ⌜ r ≡ sizesOf (modelOf (now (file .entry))) ⌝ }
 {
-    rate * time(file)
+    Sizes {
+        states: state_count(file),
+        highest: highest_moment(file),
+        rate: uniform_rate(file, sums),
+        largest: max_reward(file),
+    }
+}
+
+// X = E × T, the expected jump count in millionths, for one time.
+pub fn jump_millionths(rate: u64, time: u64) -> u64
+    requires { ⌜ (rate < 2 ^ 32) × (time < 2 ^ 32) ⌝ }
+    ensures { λ r. ⌜ r ≡ rate * time ⌝ }
+{
+    rate * time
 }
 
 // 6. The chain c as 64 rows of 64 entries, row after row: c(i,j) is entry 64 × i + j, and 0 past M.
@@ -273,10 +290,9 @@ fn outside(x: u64, most: u64) -> bool
     x == 0 || x > most
 }
 
-// The number of the first row that holds, for a file lent with so many answer cells; accepted where
-// none does. Rows 1 to 6, the header, are tested here.
-pub fn judge(file: &[u8], cells: usize) -> Judgement
-    ensures { λ r. ⌜ r ≡ judgement (now (file .entry)) cells ⌝ }
+// Rows 1 to 6: the framing.
+fn judge_framing(file: &[u8]) -> Judgement
+    ensures { λ r. ⌜ verdict r ≡ judgedBy (framing (now (file .entry))) ⌝ }
 {
     if file.len() < HEADER {
         return Judgement::Refused(1);
@@ -298,46 +314,82 @@ pub fn judge(file: &[u8], cells: usize) -> Judgement
     if length != 4 * states * states + 11 {
         return Judgement::Refused(6);
     }
-    judge_quantities(file, cells)
+    Judgement::Accepted
 }
 
-// Rows 7 to 10: the tolerance, the time and the rewards.
-fn judge_quantities(file: &[u8], cells: usize) -> Judgement
+// What the rows say that every call which reads a file shares: E, the uniformization rate, or the
+// number of the first row that holds.
+pub enum Rated {
+    Rate(u64),
+    Refused(u8),
+}
+
+// Rows 7 to 11: the quantities. Some row sum is above its limit just where E is.
+fn judge_quantities(file: &[u8]) -> Rated
     requires { ⌜ Framed (now file) ⌝ }
-    ensures { λ r. ⌜ r ≡ firstHeld (drop 6 (rows (now (file .entry)) cells)) ⌝ }
+    ensures { λ r. ⌜ ratedAs r ≡ firstHeld (quantities (now (file .entry))) (uniformRate (modelOf (now (file .entry)))) ⌝ }
 {
     if outside(tolerance(file), MOST_TOLERANCE) {
-        return Judgement::Refused(7);
+        return Rated::Refused(7);
     }
     if time(file) == 0 {
-        return Judgement::Refused(8);
+        return Rated::Refused(8);
     }
     let most = max_reward(file);
     if most > MOST_REWARD {
-        return Judgement::Refused(9);
+        return Rated::Refused(9);
     }
     if most == 0 {
-        return Judgement::Refused(10);
+        return Rated::Refused(10);
     }
-    judge_rates(file, cells)
+    let sums = row_sums(file);
+    let rate = uniform_rate(file, &sums);
+    if rate > MOST_ROW_SUM {
+        return Rated::Refused(11);
+    }
+    Rated::Rate(rate)
 }
 
-// Rows 11 to 13: the rates, and the room for the answer. Some row sum is above its limit just where
-// E is.
-fn judge_rates(file: &[u8], cells: usize) -> Judgement
-    requires { ⌜ Framed (now file) ⌝ }
-    ensures { λ r. ⌜ r ≡ firstHeld (drop 10 (rows (now (file .entry)) cells)) ⌝ }
+// Rows 1 to 11.
+pub fn judge_model(file: &[u8]) -> Rated
+    ensures { λ r. ⌜ ratedAs r ≡ firstHeld (framing (now (file .entry)) ++ quantities (now (file .entry))) (uniformRate (modelOf (now (file .entry)))) ⌝ }
 {
-    let states = state_count(file);
-    let sums = row_sums(file);
-    let rate = uniform_rate(&sums, states);
-    if rate > MOST_ROW_SUM {
-        return Judgement::Refused(11);
+    let framing = judge_framing(file);
+    match framing {
+        Judgement::Refused(k) => Rated::Refused(k),
+        Judgement::Accepted => judge_quantities(file),
     }
-    if jump_millionths(file, rate) > MOST_JUMPS {
+}
+
+// Row 12, for one time: E × T is above its limit.
+pub fn too_many_jumps(rate: u64, time: u64) -> bool
+    requires { ⌜ (rate < 2 ^ 32) × (time < 2 ^ 32) ⌝ }
+    ensures { λ r. ⌜ r ≡ ltb 256000000 (rate * time) ⌝ }
+{
+    jump_millionths(rate, time) > MOST_JUMPS
+}
+
+// The number of the first row that holds, for a file lent with so many answer cells; accepted where
+// none does.
+pub fn judge(file: &[u8], cells: usize) -> Judgement
+    ensures { λ r. ⌜ verdict r ≡ judgement (now (file .entry)) cells ⌝ }
+{
+    let model = judge_model(file);
+    match model {
+        Rated::Refused(k) => Judgement::Refused(k),
+        Rated::Rate(rate) => judge_run(file, rate, cells),
+    }
+}
+
+// Rows 12 and 13, for the file's time: the jumps, and the room for the moments.
+fn judge_run(file: &[u8], rate: u64, cells: usize) -> Judgement
+    requires { ⌜ Framed (now file) × (rate < 2 ^ 32) ⌝ }
+    ensures { λ r. ⌜ verdict r ≡ judgedBy (jumps rate (timeField (now (file .entry))) ++ room (stateCount (now (file .entry)) * highestMoment (now (file .entry))) cells) ⌝ }
+{
+    if too_many_jumps(rate, time(file)) {
         return Judgement::Refused(12);
     }
-    if cells < states * highest_moment(file) {
+    if cells < state_count(file) * highest_moment(file) {
         return Judgement::Refused(13);
     }
     Judgement::Accepted

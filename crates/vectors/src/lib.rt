@@ -3,90 +3,65 @@
 // The chain c stands in one array, c(i,j) at i * 64 + j, and is lent. A vector goes in by value and
 // the new one comes back: no vector changes while it is read.
 ghost use mathlib.Core.Path.{_≡_};
-ghost use mathlib.Core.List.{List, []};
-ghost use Prim.Native.Nat.{ℕ, _*_, _-_, _/_, _≤_, _<_};
+ghost use mathlib.Core.List.{List};
+ghost use Prim.Native.Nat.{ℕ, _*_, _-_, _/_, _≤_};
 ghost use lib.ListN.{getD};
 ghost use Rattle.definitions.specs.Chain.{arrays, padded};
-ghost use Rattle.definitions.specs.Vectors.{rowMean, rewardShare, nextEntry, ONE};
+ghost use Rattle.definitions.specs.Vectors.{rowMean, rewardShare, mix, nextEntry, ONE};
 ghost use Rattle.laws.specs.ArrayLaws.{entryOf};
-ghost use Rattle.vectors.specs.Ready.{RowFits, StepReady, SharesReady, FirstReady, TableReady};
+ghost use Rattle.vectors.specs.Ready.{RowReady, MixReady, StepReady, Ticks, RewardsReady, Ready};
 ghost use Rattle.vectors.specs.Table.{tableOf};
-
-// ONE, in ticks.
-const ONE_IN_TICKS: u64 = 1_000_000_000_000;
+use definitions::ONE;
+use definitions::Sizes;
 
 // V: the sum over j of c(i,j) * v(j), over E, down. It reads no reward.
-fn row_mean(chain: &[u64; 4096], states: usize, rate: u64, v: &[u64; 64], i: usize) -> u64
-    requires { ⌜ RowFits (now chain) states (now v) i ⌝ }
-    requires { ⌜ 0 < rate ⌝ }
-    ensures { λ r. ⌜ r ≡ rowMean (arrays states rate (now (chain .entry)) [] 0) (entryOf (now (v .entry))) i ⌝ }
+fn row_mean(sizes: Sizes, chain: &[u64; 4096], v: &[u64; 64], i: usize) -> u64
+    requires { ⌜ RowReady sizes (now chain) (now v) i ⌝ }
+    ensures { λ r. ⌜ ((f : List ℕ) → r ≡ rowMean (arrays sizes (now (chain .entry)) f) (entryOf (now (v .entry))) i) ⌝ }
 {
+    let states = sizes.states;
     let mut total = 0;
     for j in 0..states {
         total += chain[i * 64 + j] * v[j];
     }
-    total / rate
+    total / sizes.rate
 }
 
 // W: f(i) * x over F, down.
 fn reward_share(reward: u64, x: u64, largest: u64) -> u64
-    requires { ⌜ (reward ≤ 1000000) × (x ≤ ONE) × (0 < largest) ⌝ }
+    requires { ⌜ (reward ≤ 1000000) × (x ≤ ONE) × (1 ≤ largest) ⌝ }
     ensures { λ w. ⌜ w ≡ reward * x / largest ⌝ }
 {
     reward * x / largest
 }
 
-// U(n,r) at the state i: (n * V + r * W) over n + r, down.
-fn entry(
-    chain: &[u64; 4096],
-    rewards: &[u64; 64],
-    states: usize,
-    rate: u64,
-    largest: u64,
-    n: u64,
-    r: u64,
-    before: &[u64; 64],
-    same: &[u64; 64],
-    i: usize,
-) -> u64
-    requires { ⌜ StepReady (now chain) (now rewards) states rate largest n r (now before) (now same) ⌝ }
-    requires { ⌜ i < states ⌝ }
-    ensures { λ u. ⌜ u ≡ nextEntry (arrays states rate (now (chain .entry)) (now (rewards .entry)) largest) n r (entryOf (now (before .entry))) (entryOf (now (same .entry))) i ⌝ }
+// (n * V + r * W) over n + r, down.
+fn mix(n: u64, r: u64, v: u64, w: u64) -> u64
+    requires { ⌜ MixReady n r v w ⌝ }
+    ensures { λ u. ⌜ u ≡ mix n r v w ⌝ }
 {
-    let v = row_mean(chain, states, rate, before, i);
-    let w = reward_share(rewards[i], same[i], largest);
     (n * v + r * w) / (n + r)
 }
 
 // U(n,r) of U(n-1,r), before, and U(n,r-1), same: at the states, and 0 past them.
 pub fn step(
+    sizes: Sizes,
     chain: &[u64; 4096],
     rewards: &[u64; 64],
-    states: usize,
-    rate: u64,
-    largest: u64,
     n: u64,
     r: u64,
     before: [u64; 64],
     same: [u64; 64],
 ) -> [u64; 64]
-    requires { ⌜ StepReady (now chain) (now rewards) states rate largest n r before same ⌝ }
-    ensures { λ u. ⌜ u ≡ padded states (nextEntry (arrays states rate (now (chain .entry)) (now (rewards .entry)) largest) n r (entryOf before) (entryOf same)) ⌝ }
+    requires { ⌜ StepReady sizes (now chain) (now rewards) n r before same ⌝ }
+    ensures { λ u. ⌜ u ≡ padded (sizes .states) (nextEntry (arrays sizes (now (chain .entry)) (now (rewards .entry))) n r (entryOf before) (entryOf same)) ⌝ }
 {
+    let states = sizes.states;
     let mut next = [0u64; 64];
     for i in 0..states {
-        next[i] = entry(
-            chain,
-            rewards,
-            states,
-            rate,
-            largest,
-            n,
-            r,
-            &before,
-            &same,
-            i,
-        );
+        let v = row_mean(sizes, chain, &before, i);
+        let w = reward_share(rewards[i], same[i], sizes.largest);
+        next[i] = mix(n, r, v, w);
     }
     next
 }
@@ -98,76 +73,61 @@ fn ones(states: usize) -> [u64; 64]
 {
     let mut next = [0u64; 64];
     for i in 0..states {
-        next[i] = ONE_IN_TICKS;
+        next[i] = ONE;
     }
     next
 }
 
-// U(0,r) of U(0,r-1), same: W at the states, and 0 past them.
-fn shares(rewards: &[u64; 64], states: usize, largest: u64, same: [u64; 64]) -> [u64; 64]
-    requires { ⌜ SharesReady (now rewards) states largest same ⌝ }
-    ensures { λ u. ⌜ u ≡ padded states (λ i. rewardShare (arrays states 1 [] (now (rewards .entry)) largest) (getD same i 0) i) ⌝ }
+// U(0,r) of U(0,r-1), same: W at the states, and 0 past them. It reads no chain.
+fn shares(sizes: Sizes, rewards: &[u64; 64], same: [u64; 64]) -> [u64; 64]
+    requires { ⌜ RewardsReady sizes (now rewards) × Ticks (sizes .states) same ⌝ }
+    ensures { λ u. ⌜ ((c : List ℕ) → u ≡ padded (sizes .states) (λ i. rewardShare (arrays sizes c (now (rewards .entry))) (getD same i 0) i)) ⌝ }
 {
+    let states = sizes.states;
     let mut next = [0u64; 64];
     for i in 0..states {
-        next[i] = reward_share(rewards[i], same[i], largest);
+        next[i] = reward_share(rewards[i], same[i], sizes.largest);
     }
     next
 }
 
 // The vectors of n = 0: row r is U(0,r) for r = 0 to R, the highest moment; the rows past R are zeros.
-// They are the same for every c and E.
-pub fn first_table(
-    rewards: &[u64; 64],
-    states: usize,
-    largest: u64,
-    highest: usize,
-) -> [[u64; 64]; 9]
-    requires { ⌜ FirstReady (now rewards) states largest highest ⌝ }
-    ensures { λ t. ⌜ ((c : List ℕ) (E : ℕ) → t ≡ tableOf (arrays states E c (now (rewards .entry)) largest) highest 0) ⌝ }
+// It reads no chain.
+pub fn first_table(sizes: Sizes, rewards: &[u64; 64]) -> [[u64; 64]; 9]
+    requires { ⌜ RewardsReady sizes (now rewards) ⌝ }
+    ensures { λ t. ⌜ ((c : List ℕ) → t ≡ tableOf (arrays sizes c (now (rewards .entry))) (sizes .highest) 0) ⌝ }
 {
+    let highest = sizes.highest;
     let zeros = [0u64; 64];
     let mut table = [zeros; 9];
-    table[0] = ones(states);
+    table[0] = ones(sizes.states);
     for r in 1..highest + 1 {
         let same = table[r - 1];
-        table[r] = shares(rewards, states, largest, same);
+        table[r] = shares(sizes, rewards, same);
     }
     table
 }
 
 // The vectors of n, from those of n - 1: R steps.
 pub fn next_table(
+    sizes: Sizes,
     chain: &[u64; 4096],
     rewards: &[u64; 64],
-    states: usize,
-    rate: u64,
-    largest: u64,
-    highest: usize,
     n: u64,
     table: [[u64; 64]; 9],
 ) -> [[u64; 64]; 9]
-    requires { ⌜ TableReady (now chain) (now rewards) states rate largest highest n ⌝ }
-    requires { ⌜ table ≡ tableOf (arrays states rate (now chain) (now rewards) largest) highest (n - 1) ⌝ }
-    ensures { λ t. ⌜ t ≡ tableOf (arrays states rate (now (chain .entry)) (now (rewards .entry)) largest) highest n ⌝ }
+    requires { ⌜ Ready sizes (now chain) (now rewards) × (1 ≤ n) × (n ≤ 1024) ⌝ }
+    requires { ⌜ table ≡ tableOf (arrays sizes (now chain) (now rewards)) (sizes .highest) (n - 1) ⌝ }
+    ensures { λ t. ⌜ t ≡ tableOf (arrays sizes (now (chain .entry)) (now (rewards .entry))) (sizes .highest) n ⌝ }
 {
+    let highest = sizes.highest;
     let zeros = [0u64; 64];
     let mut next = [zeros; 9];
-    next[0] = ones(states);
+    next[0] = ones(sizes.states);
     for r in 1..highest + 1 {
         let before = table[r];
         let same = next[r - 1];
-        next[r] = step(
-            chain,
-            rewards,
-            states,
-            rate,
-            largest,
-            n,
-            r as u64,
-            before,
-            same,
-        );
+        next[r] = step(sizes, chain, rewards, n, r as u64, before, same);
     }
     next
 }

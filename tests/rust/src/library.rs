@@ -1,7 +1,7 @@
 //! The proved call, as Rust sees it: include/kuldrepso.h's declaration, and a safe function over it.
 
 /// An answer from here on is this and the number of a refusal.
-const REFUSED: u64 = 10_000;
+const REFUSED: u64 = 1_000_000;
 
 extern "C" {
     fn kuldrepso_calculate(file: *const u8, file_length: usize, cells: *mut u64, cell_count: usize) -> u64;

@@ -1,4 +1,4 @@
-//! Compares the proved call, linked from libexported.a, with an independent u128 calculation, input by input: the
+//! Compares the proved call, linked from libkuldrepso.a, with an independent u128 calculation, input by input: the
 //! answer and every cell, also those that must stay as they were. `tests/rust/run` builds and runs this.
 //!
 //!     compare [--seed S] [--count N] [--save DIR] [FILE..]

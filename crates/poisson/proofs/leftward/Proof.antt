@@ -1,68 +1,51 @@
 -- `poisson::leftward` meets its contract. Assumes nothing.
 -- The loop's invariant: the weights stand from n on. The measure is n.
-use mathlib.Core.Path.{_≡_, sym}
+use mathlib.Core.Path.{_≡_, ap, _∙_}
+use mathlib.Core.List.{List}
 use Prim.Native.Nat.{_≤_}
 use native.Mathlib.Omega.{arith}
-use borrow.Author.Needs.{needs}
+use native.Mathlib.Nat.{le-refl}
+use lib.ListN.{getD}
+use Rattle.definitions.specs.Sums.{firsts}
 use Rattle.definitions.specs.Weights.{mode}
+use Rattle.laws.specs.ListLaws.{getD-firsts}
 use Rattle.laws.specs.WeightLaws.{mode-low}
-use Rattle.poisson.specs.Stages.{Holds}
-use Rattle.poisson.proofs.Filling.{one-left, all-weights}
+use Rattle.poisson.specs.Stages.{LEVELS, weightsFrom}
+use Rattle.poisson.proofs.Filling.{above, one-left, all-weights}
 use Rattle.poisson.proofs.leftward.Statement.{statement}
 use Rattle.poisson.proofs.leftward.Tie as tie
 
 abbrev Inv-loop : tie.InvT-loop
-Inv-loop x w₀ n₀ w n = (n ≤ mode x) × Holds x n 564 w
+Inv-loop x w₀ n₀ w n = (n ≤ mode x) × (mode x ≤ 256) × (w ≡ firsts LEVELS (weightsFrom n x))
 
 abbrev μ-loop : tie.MeasureT-loop
 μ-loop x w₀ n₀ w n = n
 
-mode-of-requires : tie.Need-mode-of-requires Inv-loop μ-loop
-mode-of-requires c κs = search needs
-
 loop-holds : tie.Need-loop-holds Inv-loop μ-loop
-loop-holds c = (omega arith, rw (sym (c .mode-of .ensures)) at (c .before .pre .1))
-
-mul-step-left : tie.Need-mul-step-left Inv-loop μ-loop
-mul-step-left c = omega (arith, mode-low (c .before .before .before .args .x))
-
-array-read-step-left : tie.Need-array-read-step-left Inv-loop μ-loop
-array-read-step-left c = omega (arith, mode-low (c .before .before .before .args .x))
+loop-holds c = (omega arith, omega (arith, mode-low (c .before .args .x)), rw (c .mode-of .ensures) (c .before .pre .1))
 
 step-left-requires : tie.Need-step-left-requires Inv-loop μ-loop
 step-left-requires c κs =
     let loop = c .before .loop in
-    let x = c .before .before .before .args .x in
-    (loop .inv .1 .filled (loop .n) (omega arith) (omega (arith, mode-low x)), omega arith, omega arith, omega arith)
-
-sub-w : tie.Need-sub-w Inv-loop μ-loop
-sub-w c = omega arith
-
-mul-w : tie.Need-mul-w Inv-loop μ-loop
-mul-w c = omega (arith, mode-low (c .before .before .before .before .args .x))
-
-array-write-w : tie.Need-array-write-w Inv-loop μ-loop
-array-write-w c = omega (arith, mode-low (c .before .before .before .before .args .x))
-
-sub-n : tie.Need-sub-n Inv-loop μ-loop
-sub-n c = omega arith
-
-loop-less : tie.Need-loop-less Inv-loop μ-loop
-loop-less c = omega arith
+    let n = loop .n in
+    let x = c .before .before .before .args .x in (
+      ap (λ (l : List _). getD l n 0) (loop .inv .2) ∙ getD-firsts 0 LEVELS (weightsFrom n x) n (omega arith) ∙ above n x n (le-refl n),
+      omega arith,
+      omega arith,
+      omega arith,
+    )
 
 loop-again : tie.Need-loop-again Inv-loop μ-loop
 loop-again c =
     let loop = c .before .before .loop in
     let x = c .before .before .before .before .args .x in
-    (omega arith, one-left x (loop .n) 564 (c .step-left .result) (loop .w) (loop .inv .1) (omega arith) (omega (arith, mode-low x)) (omega arith) (c .step-left .ensures))
+    (omega arith, omega arith, one-left (loop .n) x (loop .w) (c .step-left .result) (omega arith) (omega arith) (loop .inv .2) (c .step-left .ensures))
 
 returns : tie.Need-returns Inv-loop μ-loop
 returns c =
     let loop = c .before .loop in
-    let x = c .before .before .before .args .x in
     let end : loop .n ≡ 0 = omega arith in
-    let whole : Holds x 0 564 (loop .w) = rw end at (loop .inv .1) in
-    all-weights x (loop .w) whole
+    rw end at (loop .inv .2) ∙ all-weights (c .before .before .before .args .x)
 
 pub leftward-spec : {M : Type 1} → statement M
 leftward-spec =
@@ -70,15 +53,15 @@ leftward-spec =
     (tie.spec
     Inv-loop
     μ-loop
-    mode-of-requires
+    (λ c κs. omega arith)
     loop-holds
-    mul-step-left
-    array-read-step-left
+    (λ c. omega arith)
+    (λ c. omega arith)
     step-left-requires
-    sub-w
-    mul-w
-    array-write-w
-    sub-n
-    loop-less
+    (λ c. omega arith)
+    (λ c. omega arith)
+    (λ c. omega arith)
+    (λ c. omega arith)
+    (λ c. omega arith)
     loop-again
     returns)

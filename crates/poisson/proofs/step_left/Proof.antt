@@ -1,13 +1,19 @@
 -- `poisson::step_left` meets its contract. Assumes nothing.
 use mathlib.Core.Path.{_≡_, sym, ap, _∙_}
-use Prim.Native.Nat.{ℕ, _*_, _/_}
+use Prim.Native.Nat.{ℕ, _+_, _*_, _-_, _/_, _≤_}
 use native.Mathlib.Omega.{arith}
-use Rattle.definitions.specs.Weights.{weight}
-use Rattle.laws.specs.WeightLaws.{mode-low, weight-max}
+use native.Mathlib.Nat.{mul-assoc}
+use Rattle.definitions.specs.Weights.{MILLION, mode, weight}
+use Rattle.laws.specs.WeightLaws.{mode-low, weight-max, weight-left}
 use Rattle.muldiv.specs.QuotientLaws.{scalable-part}
-use Rattle.poisson.proofs.Filling.{weight-before}
 use Rattle.poisson.proofs.step_left.Statement.{statement}
 use Rattle.poisson.proofs.step_left.Tie as tie
+
+-- the divisor's million beside n: w(n − 1) = w(n) × (n × 1,000,000) over X, down
+weight-before : (X n : ℕ) → 1 ≤ n → n ≤ mode X → weight X (n - 1) ≡ weight X n * (n * MILLION) / X
+weight-before X n pos low =
+    let here : n - 1 + 1 ≡ n = omega arith in
+    weight-left X (n - 1) (omega arith) ∙ rw (here, mul-assoc)
 
 mul-scaled : tie.Need-mul-scaled
 mul-scaled c = omega (arith, mode-low (c .args .x))

@@ -7,7 +7,7 @@ use borrow.Author.Needs.{needs}
 use Rattle.definitions.specs.File.{stateCount}
 use Rattle.definitions.specs.Chain.{modelOf, rowSum}
 use Rattle.laws.specs.ChainLaws.{getD-padded, rowSum-le-rate}
-use Rattle.reader.specs.Rows.{chainRows, written-none, rows-done}
+use Rattle.reader.specs.Rows.{chainRows, filled-none, rows-done}
 use Rattle.reader.proofs.chain_of.Statement.{statement}
 use Rattle.reader.proofs.chain_of.Tie as tie
 
@@ -55,7 +55,7 @@ chain-of-spec =
     μ-loop
     (λ c κs. omega arith)
     (λ c κs. search needs)
-    (λ c. (omega arith, c .no-rows .ensures ∙ rw (written-none (c .before .before .before .args .file .now)) refl))
+    (λ c. (omega arith, c .no-rows .ensures ∙ rw (filled-none (c .before .before .before .args .file .now)) refl))
     (λ c. omega arith)
     (λ c. omega arith)
     (λ c. stays (c .before))

@@ -5,7 +5,7 @@ use native.Mathlib.Omega.{arith}
 use lib.ListN.{length}
 use Rattle.definitions.specs.Sums.{over}
 use Rattle.definitions.specs.File.{rewardField, stateCount}
-use Rattle.laws.specs.ListLaws.{over-none, over-more}
+use Rattle.laws.specs.ListLaws.{over-none, over-store}
 use Rattle.reader.specs.Framed.{reward-room}
 use Rattle.laws.specs.ArrayLaws.{zeros, length-zeros, over-padded}
 use Rattle.reader.proofs.rewards_of.Statement.{statement}
@@ -33,7 +33,7 @@ loop-again c =
     let file = c .before .before .before .before .before .before .args .file .now in
     let small : now .i < length (zeros 64) = omega (arith, length-zeros 64) in
     let reward : c .be .result ≡ rewardField file (now .i) = rw (c .before .reward-at .ensures) at (c .be .ensures .0) in
-    (omega arith, rw (now .inv .1, reward) (over-more (now .i) (rewardField file) (zeros 64) small))
+    (omega arith, over-store (now .i) (rewardField file) (zeros 64) _ _ small (now .inv .1) reward)
 
 returns : tie.Need-returns Inv-loop μ-loop
 returns c =

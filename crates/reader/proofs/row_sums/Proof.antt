@@ -6,7 +6,7 @@ use lib.ListN.{length}
 use Rattle.definitions.specs.Sums.{over}
 use Rattle.definitions.specs.File.{stateCount}
 use Rattle.definitions.specs.Chain.{modelOf, rowSum}
-use Rattle.laws.specs.ListLaws.{over-none, over-more}
+use Rattle.laws.specs.ListLaws.{over-none, over-store}
 use Rattle.laws.specs.ArrayLaws.{zeros, length-zeros, over-padded}
 use Rattle.reader.proofs.row_sums.Statement.{statement}
 use Rattle.reader.proofs.row_sums.Tie as tie
@@ -26,7 +26,7 @@ loop-again c =
     let now = c .before .before .loop in
     let file = c .before .before .before .before .before .args .file .now in
     let small : now .i < length (zeros 64) = omega (arith, length-zeros 64) in
-    (omega arith, rw (now .inv .1, c .row-sum .ensures) (over-more (now .i) (rowSum (modelOf file)) (zeros 64) small))
+    (omega arith, over-store (now .i) (rowSum (modelOf file)) (zeros 64) _ _ small (now .inv .1) (c .row-sum .ensures))
 
 returns : tie.Need-returns Inv-loop μ-loop
 returns c =

@@ -5,12 +5,12 @@ use native.Mathlib.Omega.{arith}
 use Rattle.definitions.specs.File.{stateCount}
 use Rattle.definitions.specs.Chain.{modelOf, chainOf}
 use Rattle.reader.specs.Framed.{row-room, entry-room}
-use Rattle.reader.specs.Rows.{written, chainAt, entry-is, written-more, row-done}
+use Rattle.reader.specs.Rows.{filledTo, chainAt, entry-is, filled-more, row-done}
 use Rattle.reader.proofs.write_row.Statement.{statement}
 use Rattle.reader.proofs.write_row.Tie as tie
 
 abbrev Inv-loop : tie.InvT-loop
-Inv-loop file i diagonal chain₀ states row j₀ chain j = (j ≤ states) × (chain ≡ written file (i * 64 + j))
+Inv-loop file i diagonal chain₀ states row j₀ chain j = (j ≤ states) × (chain ≡ filledTo file (i * 64 + j))
 
 abbrev μ-loop : tie.MeasureT-loop
 μ-loop file i diagonal chain₀ states row j₀ chain j = states - j
@@ -36,7 +36,7 @@ loop-again c =
     rw (c .before .before .before .row-of .ensures, entry-is file (start .args .i) (now .j) (start .args .diagonal) (start .pre .framed) (start .pre .state) (omega arith) (start .pre .stays))
     at (c .entry-in .ensures .0) in
     let next : k + 1 ≡ start .args .i * 64 + (now .j + 1) = omega arith in
-    (omega arith, rw (now .inv .1) (rw next at (written-more file k (c .entry-in .result) (omega arith) entry)))
+    (omega arith, rw (now .inv .1) (rw next at (filled-more file k (c .entry-in .result) (omega arith) entry)))
 
 returns : tie.Need-returns Inv-loop μ-loop
 returns c =
@@ -54,7 +54,7 @@ write-row-spec =
     μ-loop
     (λ c κs. omega arith)
     row-of-requires
-    (λ c. (omega arith, c .before .before .before .pre .earlier ∙ ap (written (c .before .before .before .args .file .now)) (omega arith)))
+    (λ c. (omega arith, c .before .before .before .pre .earlier ∙ ap (filledTo (c .before .before .before .args .file .now)) (omega arith)))
     entry-in-requires
     (λ c. omega arith)
     (λ c. omega arith)

@@ -1,68 +1,66 @@
--- `vectors::first_table` meets its contract. The invariant: the rows below r are U(0,0), U(0,1), …, for any c and E. Assumes nothing.
+-- `vectors::first_table` meets its contract. The invariant: the rows below r are U(0,0), U(0,1), …, for any c. Assumes nothing.
 use mathlib.Core.List.{List, []}
-use mathlib.Core.Path.{ap, _∙_}
+use mathlib.Core.Path.{_≡_, ap, _∙_}
 use Prim.Native.Nat.{ℕ, _+_, _-_, _≤_}
 use native.Mathlib.Omega.{arith}
 use denote.Ref.{now}
 use lib.ListN.{getD}
-use Rattle.definitions.specs.Chain.{padded, arrays}
+use Rattle.definitions.specs.Sums.{over}
+use Rattle.definitions.specs.Chain.{Chain, padded, arrays}
 use Rattle.definitions.specs.Vectors.{rewardShare, vector}
-use Rattle.vectors.specs.Ready.{Ticks}
-use Rattle.vectors.specs.StepLaws.{vector-zero, vector-ticks, first-row}
-use Rattle.vectors.proofs.RowsFilled.{RowsFilled, rows-first, rows-more, rows-all, bare}
+use Rattle.laws.specs.ArrayLaws.{zeros}
+use Rattle.vectors.specs.ReadyLaws.{no-chain}
+use Rattle.vectors.specs.StepLaws.{vector-ticks, vector-first}
+use Rattle.vectors.specs.TableLaws.{blank, row-filled, table-start, table-more, table-filled}
 use Rattle.vectors.proofs.first_table.Statement.{statement}
 use Rattle.vectors.proofs.first_table.Tie as tie
 
 abbrev Inv-loop : tie.InvT-loop
-Inv-loop rewards states largest highest table₀ r₀ r-end table r =
-    (1 ≤ r) × (r ≤ highest + 1) × ((c : List ℕ) (E : ℕ) → RowsFilled (arrays states E c rewards largest) 0 table r)
+Inv-loop sizes rewards highest table₀ r₀ r-end table r =
+    (1 ≤ r) × (r ≤ highest + 1) × ((c : List ℕ) → table ≡ over r (vector (arrays sizes c rewards) 0) blank)
 
 abbrev μ-loop : tie.MeasureT-loop
-μ-loop rewards states largest highest table₀ r₀ r-end table r = highest + 1 - r
+μ-loop sizes rewards highest table₀ r₀ r-end table r = highest + 1 - r
+
+-- the rewards with any chain
+abbrev held : tie.Start Inv-loop μ-loop → List ℕ → Chain
+held start c = arrays (start .args .sizes) c (now (start .args .rewards))
+
+-- the row before row r
+row-before : (c : tie.In-loop Inv-loop μ-loop) (c' : List ℕ) →
+    let turn = c .before .loop in getD (turn .table) (turn .r - 1) [] ≡ vector (held (c .before .before .before) c') 0 (turn .r - 1)
+row-before c c' =
+    let turn = c .before .loop in
+    row-filled (held (c .before .before .before) c') 0 (turn .r) (turn .r - 1) (turn .table) (turn .inv .2 c') (omega arith)
 
 loop-holds : tie.Need-loop-holds Inv-loop μ-loop
-loop-holds c =
-    let args = c .before .args in (
-      omega arith,
-      omega arith,
-      λ c' E. let ch = arrays (args .states) E c' (now (args .rewards)) (args .largest) in rows-first ch 0 (c .ones .result) (c .ones .ensures ∙ vector-zero ch 0),
-    )
+unfolding zeros
+loop-holds c = (omega arith, omega arith, λ c'. table-start (held (c .before) c') 0 (omega arith) (c .ones .ensures))
 
 shares-requires : tie.Need-shares-requires Inv-loop μ-loop
 shares-requires c κs =
     let start = c .before .before .before .before in
-    let args = start .args in
-    let turn = c .before .before .loop in
-    let ch = arrays (args .states) 1 [] (now (args .rewards)) (args .largest) in
-    let ready = start .pre .rewards in
-    let range : Ticks (args .states) (vector ch 0 (turn .r - 1)) = vector-ticks ch 0 (turn .r - 1) (ready .states-max) (bare (now (args .rewards)) (args .states) (args .largest) ready) in
-    record {
-      rewards = ready;
-      same-ticks = rw (turn .inv .2 [] 1 .done (turn .r - 1) (omega arith)) range;
-    }
+    (start .pre, vector-ticks (held start []) (omega arith) 0 (c .before .before .loop .r - 1) (row-before (c .before) []) (no-chain (start .pre)))
 
 loop-again : tie.Need-loop-again Inv-loop μ-loop
-unfolding rewardShare
 loop-again c =
     let start = c .before .before .before .before .before in
-    let args = start .args in
     let turn = c .before .before .before .loop in (
       omega arith,
       omega arith,
-      λ c' E.
-          let ch = arrays (args .states) E c' (now (args .rewards)) (args .largest) in
-          let so = turn .inv .2 c' E in
-          rows-more ch 0 (turn .table) (turn .r) (c .shares .result) (omega arith) so
-          (c .shares .ensures
-          ∙ ap (λ (v : List ℕ). padded (args .states) (λ i. rewardShare ch (getD v i 0) i)) (so .done (turn .r - 1) (omega arith))
-          ∙ first-row ch (turn .r) (omega arith) (start .pre .rewards .states-max)),
+      λ c'.
+          let ch = held start c' in
+          table-more ch 0 (turn .r) (turn .table) (omega arith) (turn .inv .2 c')
+          (c .shares .ensures c'
+          ∙ ap (λ (v : List ℕ). padded (ch .states) (λ i. rewardShare ch (getD v i 0) i)) (row-before (c .before .before) c')
+          ∙ vector-first ch (omega arith) (turn .r) (omega arith)),
     )
 
 returns : tie.Need-returns Inv-loop μ-loop
-returns c = λ c' E.
-    let args = c .before .before .before .args in
+returns c = λ c'.
+    let start = c .before .before .before in
     let turn = c .before .loop in
-    rows-all (arrays (args .states) E c' (now (args .rewards)) (args .largest)) (args .highest) 0 (turn .table) (turn .r) (omega arith) (turn .inv .2 c' E) (omega arith)
+    table-filled (held start c') (start .args .sizes .highest) 0 (omega arith) (turn .r) (turn .table) (turn .inv .2 c') (omega arith)
 
 pub first-table-spec : {M : Type 1} → statement M
 first-table-spec =

@@ -1,50 +1,52 @@
 -- `vectors::shares` meets its contract. Assumes nothing.
 use mathlib.Core.List.{List, []}
-use Prim.Native.Nat.{ℕ, _-_}
+use mathlib.Core.Path.{_≡_, sym, _∙_}
+use Prim.Native.Nat.{ℕ, _-_, _≤_}
 use native.Mathlib.Omega.{arith}
 use denote.Ref.{now}
 use lib.ListN.{getD}
+use Rattle.definitions.specs.Sums.{over}
 use Rattle.definitions.specs.Chain.{arrays}
 use Rattle.definitions.specs.Vectors.{rewardShare}
-use Rattle.vectors.proofs.Filled.{Filled, filled-none, filled-more, filled-all}
+use Rattle.laws.specs.ListLaws.{over-none, over-store}
+use Rattle.laws.specs.ArrayLaws.{zeros, length-zeros, over-padded}
 use Rattle.vectors.proofs.shares.Statement.{statement}
 use Rattle.vectors.proofs.shares.Tie as tie
 
--- W at i
-abbrev share : List ℕ → ℕ → ℕ → List ℕ → ℕ → ℕ
-share f M F same i = rewardShare (arrays M 1 [] f F) (getD same i 0) i
-
 abbrev Inv-loop : tie.InvT-loop
-Inv-loop rewards states largest same next₀ i₀ next i = Filled states (share rewards states largest same) next i
+Inv-loop sizes rewards same states next₀ i₀ next i =
+    (i ≤ states) × ((c : List ℕ) → next ≡ over i (λ k. rewardShare (arrays sizes c rewards) (getD same k 0) k) (zeros 64))
 
 abbrev μ-loop : tie.MeasureT-loop
-μ-loop rewards states largest same next₀ i₀ next i = states - i
+μ-loop sizes rewards same states next₀ i₀ next i = states - i
 
--- W of the arguments
-abbrev target : tie.Start Inv-loop μ-loop → ℕ → ℕ
-target start = share (now (start .args .rewards)) (start .args .states) (start .args .largest) (start .args .t4)
+-- W of the arguments, with any chain
+abbrev share : tie.Start Inv-loop μ-loop → List ℕ → ℕ → ℕ
+share start c k = rewardShare (arrays (start .args .sizes) c (now (start .args .rewards))) (getD (start .args .t3) k 0) k
 
 loop-holds : tie.Need-loop-holds Inv-loop μ-loop
-loop-holds c = filled-none (c .args .states) (target c)
+unfolding zeros
+loop-holds c = (omega arith, λ c'. sym (over-none (share c c') (zeros 64)))
 
 reward-share-requires : tie.Need-reward-share-requires Inv-loop μ-loop
 reward-share-requires c κs =
     let given = c .before .before .before .pre in
     let i = c .before .before .loop .i in
-    omega (arith, given .rewards .reward i (omega arith), given .same-ticks .below i (omega arith))
+    omega (arith, given .0 .reward i (omega arith), given .1 .below i (omega arith))
 
 loop-again : tie.Need-loop-again Inv-loop μ-loop
 unfolding rewardShare
 loop-again c =
     let start = c .before .before .before .before in
     let turn = c .before .before .before .loop in
-    filled-more (start .args .states) (target start) (turn .next) (turn .i) (c .reward-share .result) (omega arith) (turn .inv) (omega arith) (c .reward-share .ensures)
+    (omega arith, λ c'. over-store (turn .i) (share start c') (zeros 64) (turn .next) (c .reward-share .result) (omega (arith, length-zeros 64)) (turn .inv .1 c') (c .reward-share .ensures))
 
 returns : tie.Need-returns Inv-loop μ-loop
-returns c =
+returns c = λ c'.
     let start = c .before .before in
     let turn = c .before .loop in
-    filled-all (start .args .states) (target start) (turn .next) (turn .i) (omega arith) (turn .inv) (omega arith)
+    let all : turn .i ≡ start .args .sizes .states = omega arith in
+    rw all at (turn .inv .1 c') ∙ over-padded _ (share start c') (omega arith)
 
 pub shares-spec : {M : Type 1} → statement M
 shares-spec =

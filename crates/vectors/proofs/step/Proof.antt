@@ -1,49 +1,68 @@
--- `vectors::step` meets its contract. Assumes nothing.
-use mathlib.Core.List.{List}
-use Prim.Native.Nat.{ℕ, _-_}
+-- `vectors::step` meets its contract. The invariant: the states passed have U(n,r). Assumes nothing.
+use mathlib.Core.Path.{_≡_, sym, _∙_, ap₂}
+use Prim.Native.Nat.{ℕ, _-_, _≤_}
 use native.Mathlib.Omega.{arith}
 use denote.Ref.{now}
+use Rattle.definitions.specs.Sums.{over}
 use Rattle.definitions.specs.Chain.{arrays}
-use Rattle.definitions.specs.Vectors.{nextEntry}
-use Rattle.laws.specs.ArrayLaws.{entryOf}
-use Rattle.vectors.proofs.Filled.{Filled, filled-none, filled-more, filled-all}
+use Rattle.definitions.specs.Vectors.{rewardShare, mix, nextEntry}
+use Rattle.laws.specs.ListLaws.{over-none, over-store}
+use Rattle.laws.specs.ArrayLaws.{entryOf, zeros, length-zeros, over-padded}
+use Rattle.vectors.specs.ReadyLaws.{row-ready, mix-ready}
 use Rattle.vectors.proofs.step.Statement.{statement}
 use Rattle.vectors.proofs.step.Tie as tie
 
--- U(n,r)
-abbrev u : List ℕ → List ℕ → ℕ → ℕ → ℕ → ℕ → ℕ → List ℕ → List ℕ → ℕ → ℕ
-u c f M E F n r before same = nextEntry (arrays M E c f F) n r (entryOf before) (entryOf same)
-
 abbrev Inv-loop : tie.InvT-loop
-Inv-loop chain rewards states rate largest n r before same next₀ i₀ next i =
-    Filled states (u chain rewards states rate largest n r before same) next i
+Inv-loop sizes chain rewards n r before same states next₀ i₀ next i =
+    (i ≤ states) × (next ≡ over i (nextEntry (arrays sizes chain rewards) n r (entryOf before) (entryOf same)) (zeros 64))
 
 abbrev μ-loop : tie.MeasureT-loop
-μ-loop chain rewards states rate largest n r before same next₀ i₀ next i = states - i
+μ-loop sizes chain rewards n r before same states next₀ i₀ next i = states - i
 
 -- U(n,r) of the arguments
-abbrev target : tie.Start Inv-loop μ-loop → ℕ → ℕ
-target start =
+abbrev u : tie.Start Inv-loop μ-loop → ℕ → ℕ
+u start =
     let args = start .args in
-    u (now (args .chain)) (now (args .rewards)) (args .states) (args .rate) (args .largest) (args .n) (args .r) (args .t8) (args .t9)
+    nextEntry (arrays (args .sizes) (now (args .chain)) (now (args .rewards))) (args .n) (args .r) (entryOf (args .t6)) (entryOf (args .t7))
 
 loop-holds : tie.Need-loop-holds Inv-loop μ-loop
-loop-holds c = filled-none (c .args .states) (target c)
+unfolding zeros
+loop-holds c = (omega arith, sym (over-none (u c) (zeros 64)))
 
-entry-requires : tie.Need-entry-requires Inv-loop μ-loop
-entry-requires c κs = (c .before .before .before .before .pre, omega arith)
+row-mean-requires : tie.Need-row-mean-requires Inv-loop μ-loop
+row-mean-requires c κs = row-ready (c .before .before .before .pre) (c .before .before .loop .i) (omega arith)
+
+reward-share-requires : tie.Need-reward-share-requires Inv-loop μ-loop
+reward-share-requires c κs =
+    let given = c .before .before .before .before .before .pre in
+    let i = c .before .before .before .before .loop .i in
+    omega (arith, given .ready .rewards .reward i (omega arith), given .same-ticks .below i (omega arith))
+
+mix-requires : tie.Need-mix-requires Inv-loop μ-loop
+unfolding rewardShare
+mix-requires c κs =
+    let start = c .before .before .before .before .before .before in
+    let mean = c .before .before .row-mean in
+    mix-ready (start .pre) (c .before .before .before .before .before .loop .i) (omega arith) (mean .result) (c .reward-share .result)
+    (mean .ensures (now (start .args .rewards))) (c .reward-share .ensures)
 
 loop-again : tie.Need-loop-again Inv-loop μ-loop
+unfolding rewardShare nextEntry
 loop-again c =
-    let start = c .before .before .before .before .before in
-    let turn = c .before .before .before .before .loop in
-    filled-more (start .args .states) (target start) (turn .next) (turn .i) (c .entry .result) (omega arith) (turn .inv) (omega arith) (c .entry .ensures)
+    let start = c .before .before .before .before .before .before .before in
+    let turn = c .before .before .before .before .before .before .loop in
+    let args = start .args in (
+      omega arith,
+      over-store (turn .i) (u start) (zeros 64) (turn .next) (c .mix .result) (omega (arith, length-zeros 64)) (turn .inv .1)
+          (c .mix .ensures ∙ ap₂ (mix (args .n) (args .r)) (c .before .before .before .row-mean .ensures (now (args .rewards))) (c .before .reward-share .ensures)),
+    )
 
 returns : tie.Need-returns Inv-loop μ-loop
 returns c =
     let start = c .before .before in
     let turn = c .before .loop in
-    filled-all (start .args .states) (target start) (turn .next) (turn .i) (omega arith) (turn .inv) (omega arith)
+    let all : turn .i ≡ start .args .sizes .states = omega arith in
+    rw all at (turn .inv .1) ∙ over-padded _ (u start) (omega arith)
 
 pub step-spec : {M : Type 1} → statement M
 step-spec =
@@ -52,7 +71,13 @@ step-spec =
     Inv-loop
     μ-loop
     loop-holds
-    entry-requires
+    row-mean-requires
+    (λ c. omega arith)
+    (λ c. omega arith)
+    (λ c. omega arith)
+    (λ c. omega arith)
+    reward-share-requires
+    mix-requires
     (λ c. omega arith)
     (λ c. omega arith)
     (λ c. omega arith)

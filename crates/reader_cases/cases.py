@@ -1,0 +1,160 @@
+#!/usr/bin/env python3
+"""Writes stdin and stdout: the files that the reader is run on, and the row that stops each (0: none).
+
+The answers are computed here from document 01's table alone. Where a file is short enough for the
+printed sheet they are also held to the independent reference, which is run as a program; it lends
+512 cells, so row 13 is this page's own.
+"""
+import os
+import random
+import subprocess
+import sys
+
+HERE = os.path.dirname(os.path.abspath(__file__))
+REFERENCE = os.path.join(HERE, '..', '..', 'reference', 'calculator.py')
+SHEET = 16398  # the bytes that the sheet's program reads
+CELLS = 512    # the cells that it lends
+
+
+def number(value, width=4):
+    return value.to_bytes(width, 'big')
+
+
+def model(states=1, highest=1, tolerance=10000, time=1, rewards=None, rates=None, version=1):
+    """A file's bytes; rates holds row after row, the diagonal left out."""
+    body = bytes([version, states, highest]) + number(tolerance) + number(time)
+    body += b''.join(number(f) for f in (rewards or [1] * states))
+    body += b''.join(number(c) for c in (rates or [0] * (states * (states - 1))))
+    return number(len(body), 2) + body
+
+
+def put(file, at, part):
+    return file[:at] + part + file[at + len(part):]
+
+
+def measured(file):
+    """The same bytes, with the length that they have."""
+    return put(file, 0, number(len(file) - 2, 2))
+
+
+def row(file, cells):
+    """The first row of the table that holds, or 0."""
+    def big(at, width=4):
+        return int.from_bytes(file[at:at + width], 'big')
+
+    if len(file) < 13:
+        return 1
+    if big(0, 2) != len(file) - 2:
+        return 2
+    if file[2] != 1:
+        return 3
+    m, r = file[3], file[4]
+    if m == 0 or m > 64:
+        return 4
+    if r == 0 or r > 8:
+        return 5
+    if big(0, 2) != 4 * m * m + 11:
+        return 6
+    if big(5) == 0 or big(5) > 100_000_000:
+        return 7
+    if big(9) == 0:
+        return 8
+    rewards = [big(13 + 4 * i) for i in range(m)]
+    if max(rewards) > 1_000_000:
+        return 9
+    if max(rewards) == 0:
+        return 10
+    at = 13 + 4 * m
+    sums = [sum(big(at + 4 * ((m - 1) * i + k)) for k in range(m - 1)) for i in range(m)]
+    if max(sums) > 10_000_000:
+        return 11
+    if max(1, max(sums)) * big(9) > 256_000_000:
+        return 12
+    if cells < m * r:
+        return 13
+    return 0
+
+
+A = bytes.fromhex('000F0101010000271000000001' + '00000005')
+B = bytes.fromhex('001B01020205F5E10000000001' + '0000000100000000000F4240000F4240')
+B_REWARDS, B_RATES = 13, 21
+
+cases = []  # a file and its number of cells
+
+
+def add(*files, cells=CELLS):
+    cases.extend((file, cells) for file in files)
+
+
+# the table's small examples, row by row, then A and B
+add(b'', A[:-1], put(A, 2, b'\x02'), put(A, 3, b'\x00'), put(A, 4, b'\x09'), put(A, 3, b'\x02'))
+add(put(A, 5, number(0)), put(A, 9, number(0)), put(A, 13, number(1_000_001)), put(A, 13, number(0)))
+add(put(B, B_RATES, number(10_000_001)), put(B, 9, number(257)))
+add(B, cells=3)
+add(A, B)
+# hand-checked files
+add(put(B, B_REWARDS, number(0) * 2), put(put(B, 2, b'\x09'), 3, b'\x00'), put(B, 5, number(100_000_001)))
+add(put(B, 9, number(256)), put(B, B_RATES, number(10_000_000)), put(B, 5, number(1)))
+add(B, cells=4)
+
+# lengths: none, too short, the header alone, the longest, one more, and past any length field
+full = model(64, 1, rates=[(7 * k) % 1000 for k in range(64 * 63)], rewards=[k for k in range(64)])
+add(b'\x00', b'\x00\x00', A[:12], A[:13], put(A[:13], 0, number(11, 2)), full, full + b'\x00', measured(full + b'\x00'))
+for size in (65537, 65538):
+    add(put(full + bytes(size - len(full)), 0, number((size - 2) % 65536, 2)))
+
+# borders: 64 and 65 states, R 8 and 9, tolerance, reward, row sum, E times T, cells
+add(model(65), put(A, 3, b'\x41'), put(A, 3, b'\xff'))
+add(put(A, 4, b'\x08'), put(A, 4, b'\x00'), put(A, 4, b'\xff'))
+add(put(A, 5, number(100_000_000)), put(A, 5, number(100_000_001)), put(A, 5, number(2**32 - 1)))
+add(put(A, 13, number(1_000_000)), put(A, 13, number(2**32 - 1)), put(B, B_REWARDS + 4, number(1_000_000)), put(B, B_REWARDS + 4, number(1_000_001)))
+for last in (5_000_000, 5_000_001):
+    rates = [1, 2, 3, 4, 5_000_000, last]
+    add(model(3, rates=rates), model(3, rates=rates[4:] + rates[:4]))
+add(model(64, rates=[2**32 - 1] * (64 * 63)))
+add(put(A, 9, number(256_000_000)), put(A, 9, number(256_000_001)), put(A, 9, number(2**32 - 1)))
+add(put(put(B, B_RATES, number(10_000_000)), 9, number(25)), put(put(B, B_RATES, number(10_000_000)), 9, number(26)))
+add(put(put(B, B_RATES, number(10_000_000)), 9, number(2**32 - 1)))
+for cells in (511, 512):
+    add(put(full, 4, b'\x08'), cells=cells)
+for cells in (0, 1):
+    add(A, cells=cells)
+add(b'', A[:-1], put(A, 4, b'\x09'), cells=0)
+
+# the order: each file is held by its row and by later ones
+file = put(B, 9, number(257))
+add(file, cells=3)
+file = put(file, B_RATES, number(10_000_001))
+add(file, put(file, B_REWARDS, number(0) * 2), cells=3)
+for at, part in ((B_REWARDS, number(1_000_001)), (9, number(0)), (5, number(0))):
+    file = put(file, at, part)
+    add(file, cells=3)
+file = measured(file + number(0))
+add(file, cells=3)
+for at, part in ((4, b'\x09'), (3, b'\x00'), (2, b'\x09'), (0, number(0, 2))):
+    file = put(file, at, part)
+    add(file, cells=3)
+add(file[:12], cells=3)
+
+# bytes changed at random
+random.seed(1)
+for _ in range(150):
+    file = random.choice([A, B, model(3, 2, rates=[1, 0, 2, 3, 0, 4])])
+    for _ in range(random.choice([1, 1, 2, 3])):
+        file = put(file, random.randrange(len(file)), bytes([random.choice([0, 1, 2, 3, random.randrange(256)])]))
+    add(file, cells=random.choice([CELLS, CELLS, CELLS, 2]))
+
+
+def reference(file):
+    sheet = subprocess.run([sys.executable, REFERENCE], input=file, capture_output=True, check=True).stdout.split()
+    return int(sheet[1]) if sheet[0] == b'refused' else 0
+
+
+for file, cells in cases:
+    if cells == CELLS and len(file) <= SHEET:
+        assert row(file, cells) == reference(file), (file.hex(), row(file, cells), reference(file))
+
+with open(os.path.join(HERE, 'stdin'), 'wb') as out:
+    out.write(b''.join(number(len(file)) + number(cells) + file for file, cells in cases))
+with open(os.path.join(HERE, 'stdout'), 'w') as out:
+    out.writelines(f'{row(file, cells)}\n' for file, cells in cases)

@@ -1,0 +1,280 @@
+#!/usr/bin/env python3
+"""The definitions tried by an outside program: what the reference says of small generated files, as theorems.
+
+    python3 tests/definitions/try.py             every statement must be proved
+    python3 tests/definitions/try.py --wrong     in every statement one number is altered; each must be refused
+    --seed N    other files          --keep    leave the scratch crate, and say where it stands
+
+Each file is a theorem three times: what a call answers (the level, or the refusal's number), all cells after
+the call (also those past the moments, which stay), and the bytes of the printed sheet. The numbers are the
+reference's. The theorems stand in a scratch crate outside the repository, which cites crates/definitions and is
+checked by `rt check DIR`. A refusal counts only where the prover names the altered statement and says that its
+two sides differ, and for each kind of number it must have shown the right and the altered one side by side.
+"""
+
+import pathlib
+import random
+import re
+import shutil
+import subprocess
+import sys
+import tempfile
+import time
+from collections import Counter, namedtuple
+
+sys.dont_write_bytecode = True
+ROOT = pathlib.Path(__file__).resolve().parent.parent.parent
+sys.path.insert(0, str(ROOT / "reference"))
+
+import calculator  # noqa: E402
+import models  # noqa: E402
+
+# --- All that names a definition. Those to unfold are read from the crate's specs/ (`unfoldable`). ------------
+
+HEAD = """\
+use Prim.Native.Nat.{ℕ}
+use mathlib.Core.List.{List, [], _∷_}
+use mathlib.Core.Path.{_≡_, refl}
+use lib.ListN.{length}
+use Rattle.definitions.specs.Rules.{accepted, refused}
+"""
+USE = "use Rattle.definitions.specs.{module}.{{{names}}}\n"
+FILE = """
+abbrev {name} : List ℕ
+{name} = {file}
+
+abbrev {name}-lent : List ℕ
+{name}-lent = {lent}
+"""
+THEOREM = """
+pub {name}-{label} : {left} ≡ {right}
+unfolding {unfolded}
+{name}-{label} = refl
+"""
+ANSWER = {"level": "accepted {}", "refused": "refused {}"}
+LEFT = {
+    "answer": "outcome {name} (length {name}-lent)",
+    "cells": "cellsAfter (outcome {name} (length {name}-lent)) {name} {name}-lent",
+    "sheet": "printedSheet {name}",
+}
+
+# --- The files ------------------------------------------------------------------------------------------------
+
+# A file with the cells lent, and the rule that stops it (0: none).
+Case = namedtuple("Case", "name rule file lent")
+
+
+def small(rng, M, R, most=1_000_000, T=2):
+    """The fields of an accepted file of M states, with rates of at most `most` millionths."""
+    rates = [[rng.randint(1, most) for _ in range(M - 1)] for _ in range(M)]
+    rewards = [rng.randint(1, models.MAX_REWARD) for _ in range(M)]
+    return models.valid(M, R, models.log_uniform(rng, 1, models.MAX_TOLERANCE), T, rewards, rates)
+
+
+def accepted_files(rng):
+    """(name, bytes) of files that no rule stops."""
+    absorbing, unrewarded = small(rng, 3, 2), small(rng, 3, 1)
+    absorbing["rates"][rng.randrange(3)] = [0, 0]
+    unrewarded["rewards"][rng.randrange(3)] = 0
+    fields = {
+        "one-state": small(rng, 1, 1),
+        "one-state-q-above-1": small(rng, 1, 3, T=rng.randint(1_000_001, 3_000_000)),
+        "two-states": small(rng, 2, 2),
+        "three-states": small(rng, 3, 3),
+        "q-below-1": small(rng, 3, 2, most=100_000),
+        "absorbing-state": absorbing,
+        "no-rates": {**small(rng, 2, 2, T=rng.randint(1, 2_000_000)), "rates": [[0], [0]]},
+        "unrewarded-state": unrewarded,
+    }
+    return [(name, models.build(**each)) for name, each in fields.items()]
+
+
+def refused_files(rng):
+    """(rule, bytes) of a file for each of the rules 1 to 12, just past its border."""
+    def changed(**fields):
+        return models.build(**{**small(rng, 2, 2), **fields})
+    return [
+        (1, changed()[:12]),
+        (2, changed() + b"\0"),
+        (3, changed(version=2)),
+        (4, changed(M=rng.choice([0, 65]))),
+        (5, changed(R=rng.choice([0, 9]))),
+        (6, models.relength(changed()[:-4])),
+        (7, changed(eps=rng.choice([0, models.MAX_TOLERANCE + 1]))),
+        (8, changed(T=0)),
+        (9, changed(rewards=[rng.randint(0, 9), models.MAX_REWARD + 1])),
+        (10, changed(rewards=[0, 0])),
+        (11, changed(rates=[[rng.randint(0, 9)], [models.MAX_ROW_SUM + 1]])),
+        (12, changed(rates=[[6_918_919], [rng.randint(0, 9)]], T=37)),
+    ]
+
+
+def cases(rng):
+    """Every file with its cells: two more than the moments need; one less for rule 13."""
+    def lent(count):
+        return [rng.randint(1, 99) for _ in range(count)]
+    result = [Case(name, 0, file, lent(file[3] * file[4] + 2)) for name, file in accepted_files(rng)]
+    result += [Case(f"rule-{rule}", rule, file, lent(4)) for rule, file in refused_files(rng)]
+    return result + [Case("rule-13", 13, models.build(**small(rng, 2, 2)), lent(3))]
+
+
+# --- What is stated of them -----------------------------------------------------------------------------------
+
+# One theorem: its case, a label, the part of LEFT that it is about, and the value on the right.
+Fact = namedtuple("Fact", "case label part value")
+
+
+def right_facts(case):
+    """What the reference says of a case."""
+    cells = list(case.lent)
+    answer = calculator.calculate(case.file, cells)
+    if (answer[1] if answer[0] == "refused" else 0) != case.rule:
+        sys.exit(f"try.py: {case.name} is answered {answer}: the file does not show what it is for")
+    values = {"answer": answer, "cells": cells, "sheet": list(calculator.sheet(case.file))}
+    return [Fact(case, part, part, value) for part, value in values.items()]
+
+
+def altered(value, place):
+    """A number one off: the answer's, or the one at a place of a list."""
+    if isinstance(value, tuple):
+        return (value[0], value[1] ^ 1)
+    return value[:place] + [value[place] ^ 1] + value[place + 1:]
+
+
+def wrong_facts(rng, facts):
+    """Each kind of number of a case's facts, altered: (the fact, the number that is right, the altered one)."""
+    answer, cells, sheet = facts
+    filled = 0 if answer.case.rule else answer.case.file[3] * answer.case.file[4]
+    places = [("rule" if answer.case.rule else "level", answer, 1),
+              ("cell-that-stays", cells, rng.randrange(filled, len(cells.value))),
+              ("byte", sheet, rng.randrange(len(sheet.value)))]
+    if filled:
+        places.append(("moment", cells, rng.randrange(filled)))
+    for label, fact, place in places:
+        wrong = fact._replace(label=label, value=altered(fact.value, place))
+        yield wrong, fact.value[place], wrong.value[place]
+
+
+def unfoldable():
+    """Each module of the definitions with the names that may be unfolded."""
+    modules = {}
+    for path in sorted((ROOT / "crates/definitions/specs").glob("*.antt")):
+        names = re.findall(r"^unfoldable pub (\S+)", path.read_text(encoding="utf-8"), re.M)
+        if names:
+            modules[path.stem] = names
+    return modules
+
+
+def written(value):
+    """An answer, or a list of numbers, in antt."""
+    if isinstance(value, tuple):
+        return ANSWER[value[0]].format(value[1])
+    return " ∷ ".join([*map(str, value), "[]"])
+
+
+def theorems(facts):
+    """The text of a module that states all the facts."""
+    modules = unfoldable()
+    unfolded = " ".join(name for names in modules.values() for name in names)
+    text = [HEAD] + [USE.format(module=module, names=", ".join(names)) for module, names in modules.items()]
+    for case in {fact.case.name: fact.case for fact in facts}.values():
+        text.append(FILE.format(name=case.name, file=written(case.file), lent=written(case.lent)))
+    for fact in facts:
+        left = LEFT[fact.part].format(name=fact.case.name)
+        text.append(THEOREM.format(name=fact.case.name, label=fact.label, left=left, right=written(fact.value), unfolded=unfolded))
+    return "".join(text)
+
+
+# --- The prover -----------------------------------------------------------------------------------------------
+
+def rt(*words):
+    """The exit status of rt, and all that it printed."""
+    done = subprocess.run(["rt", *words], cwd=ROOT, stdout=subprocess.PIPE, stderr=subprocess.STDOUT, timeout=600, check=False)
+    return done.returncode, done.stdout.decode("utf-8", "replace")
+
+
+def check(folder, facts):
+    """What the prover says of a scratch crate that states the facts."""
+    status, said = rt("check", "definitions")
+    if status != 0:
+        sys.exit(f"{said}\ntry.py: crates/definitions is not proved")
+    crate, rlib = folder / "tried", ROOT / "target/rlib"
+    (crate / "src").mkdir(parents=True)
+    (crate / "specs").mkdir()
+    (crate / "src/lib.rt").write_text("// No code: the theorems are in specs/.\n", encoding="utf-8")
+    (crate / "specs/Lib.antt").write_text("pub mod Tried\n", encoding="utf-8")
+    (crate / "specs/Tried.antt").write_text(theorems(facts), encoding="utf-8")
+    return rt("check", str(crate), "--extern", f"definitions={rlib}/definitions.rlib", "-L", f"dependency={rlib}")
+
+
+def errors(said):
+    """(name of the theorem, the whole message) of each error; the name is empty where the prover gives none."""
+    blocks = re.split(r"^(?=\S)", said, flags=re.M)
+    found = []
+    for block in blocks:
+        match = re.match(r"\S+: error: (?:`([^`]*)`)?", block)
+        if match:
+            found.append((match.group(1) or "", block))
+    return found
+
+
+def try_right(folder, facts):
+    """Whether all facts are proved, and a line to print."""
+    status, said = check(folder, facts)
+    if status == 0 and re.search(r"^logic=proved", said, re.M):
+        files = {fact.case.name: fact.case.rule for fact in facts}
+        stopped = sum(1 for rule in files.values() if rule)
+        return True, f"{len(files)} files agree with the reference ({len(files) - stopped} accepted, {stopped} refused): {len(facts)} theorems"
+    names = [name for name, _ in errors(said)]
+    return False, f"{said[:3000]}\ntry.py: not proved: {', '.join(names) or 'see above'}"
+
+
+def try_wrong(folder, wrongs):
+    """Whether every altered fact is refused, as a fact, and nothing else is; and a line to print."""
+    status, said = check(folder, [fact for fact, _, _ in wrongs])
+    messages = dict(errors(said))
+    numbers = {f"{fact.case.name}-{fact.label}": (fact.label, right, wrong) for fact, right, wrong in wrongs}
+    kinds, shown = Counter(label for label, _, _ in numbers.values()), set()
+    trouble = [f"{name}: an altered number was not refused" for name in numbers if name not in messages]
+    for name, message in messages.items():
+        if name not in numbers or "the two types differ" not in message:
+            trouble.append(f"{name}: refused for another reason: {message.splitlines()[0][:300]}")
+            continue
+        label, right, wrong = numbers[name]
+        computed = re.search(r"computed as far as they go.*?\(found\)", message, re.S)
+        if computed and all(re.search(rf"\b{number}\b", computed.group()) for number in (right, wrong)):
+            shown.add(label)
+        elif computed:
+            trouble.append(f"{name}: {wrong} for {right} is not what differs: {computed.group()[:300]}")
+    trouble += [f"{label}: the prover showed no two numbers of this kind" for label in kinds if label not in shown]
+    if status != 1 or trouble:
+        return False, "\n".join(trouble + [f"try.py: exit status {status}, {len(trouble)} faults"])
+    return True, f"{len(numbers)} altered numbers refused: " + ", ".join(f"{label} {count}" for label, count in sorted(kinds.items()))
+
+
+def main():
+    parser = models.Parser(description="State what the reference says of small files, and let the prover check it.")
+    parser.add_argument("--wrong", action="store_true", help="alter one number in each statement; each must be refused")
+    parser.add_argument("--seed", type=int, default=1)
+    parser.add_argument("--keep", action="store_true", help="leave the scratch crate")
+    options = parser.parse_args()
+    rng = random.Random(options.seed)
+    tried = [right_facts(case) for case in cases(rng)]
+    folder = pathlib.Path(tempfile.mkdtemp(prefix="definitions-tried-"))
+    began = time.monotonic()
+    try:
+        if options.wrong:
+            good, line = try_wrong(folder, [wrong for facts in tried for wrong in wrong_facts(rng, facts)])
+        else:
+            good, line = try_right(folder, [fact for facts in tried for fact in facts])
+    finally:
+        if options.keep:
+            print(f"the scratch crate is {folder / 'tried'}")
+        else:
+            shutil.rmtree(folder)
+    print(f"{line} (seed {options.seed}, {time.monotonic() - began:.0f} s)" if good else line)
+    return 0 if good else 1
+
+
+if __name__ == "__main__":
+    sys.exit(main())
