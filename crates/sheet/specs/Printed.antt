@@ -1,10 +1,9 @@
--- What the contracts name: a line's text, what is asked of an outcome, and what a printed text leaves. Assumes nothing.
+-- What the contracts name: a line's text, what is asked of an answer, and what a printed text leaves. Assumes nothing.
 use mathlib.Core.Path.{_≡_}
 use mathlib.Core.List.{List, [], _∷_, _++_}
 use Prim.Native.Nat.{ℕ, _+_, _*_, _≤_}
 use lib.ListN.{length}
-use Rattle.definitions.specs.declared.Outcome.{Outcome}
-use Rattle.definitions.specs.declared.Outcome.the-variants as ended
+use Rattle.definitions.specs.Rules.{Answer, accepted, refused}
 use Rattle.definitions.specs.Sheet.{places, decimal, figure, written}
 
 -- one line's text, of a state, an r and a moment's ticks, and how wide it is
@@ -21,9 +20,9 @@ pub record Shape (M R : ℕ) (cells : List ℕ) : Type 0 where
   pub filled : M * R ≤ length cells
 
 -- a level is printed with the moments of its cells, and a refusal asks nothing
-abbrev pub Printable : Outcome → ℕ → ℕ → List ℕ → Type 0
-Printable (ended.Level N) M R cells = Shape M R cells
-Printable (ended.Refused k) M R cells = Unit
+abbrev pub Printable : Answer ℕ → ℕ → ℕ → List ℕ → Type 0
+Printable (accepted N) M R cells = Shape M R cells
+Printable (refused k) M R cells = Unit
 
 -- the text stands at the buffer's start, the later bytes are as they were, and count is the text's length
 pub record Printed (text old new : List ℕ) (count : ℕ) : Type 0 where

@@ -2,11 +2,13 @@
 //
 // Each writer below stores its text from `at` on, or from the buffer's start, and returns the place
 // after it. Its contract names the text and how long it may be, and says that no other byte changes.
+use definitions::ONE;
 use definitions::Outcome;
 ghost use mathlib.Core.Path.{_≡_};
 ghost use mathlib.Core.List.{[], _∷_, _++_};
 ghost use Prim.Native.Nat.{_+_, _*_, _%_, _<_, _≤_};
 ghost use lib.ListN.{length};
+ghost use Rattle.definitions.specs.Moment.{answerOf};
 ghost use Rattle.definitions.specs.Sheet.{digits, places, decimal, figure, momentLines, wordLine, sheetOf};
 ghost use Rattle.sheet.specs.Puts.{Puts};
 ghost use Rattle.sheet.specs.Printed.{line, lineWidth, Shape, Printable, Printed};
@@ -80,7 +82,7 @@ fn put_figure(out: &mut [u8], at: usize, x: u64) -> usize
     requires { ⌜ at + 14 ≤ length (now out) ⌝ }
     ensures { λ r. ⌜ Puts (figure x) 14 at (now (out .entry)) (now (out .exit)) r ⌝ }
 {
-    let point = put(out, at, last_digit(x / 1_000_000_000_000));
+    let point = put(out, at, last_digit(x / ONE));
     let decimals = put(out, point, b'.');
     put_digits(out, decimals, x, 12)
 }
@@ -131,8 +133,8 @@ pub fn write_sheet(
     cells: &[u64],
     out: &mut [u8; 16384],
 ) -> usize
-    requires { ⌜ Printable outcome states highest (now cells) ⌝ }
-    ensures { λ n. ⌜ Printed (sheetOf outcome states highest (now (cells .entry))) (now (out .entry)) (now (out .exit)) n ⌝ }
+    requires { ⌜ Printable (answerOf outcome) states highest (now cells) ⌝ }
+    ensures { λ n. ⌜ Printed (sheetOf (answerOf outcome) states highest (now (cells .entry))) (now (out .entry)) (now (out .exit)) n ⌝ }
 {
     match outcome {
         Outcome::Level(n) => {
