@@ -10,8 +10,11 @@ ghost use Rattle.report.specs.Held.{Holds};
 // The bytes of standard input that are judged.
 pub const LIMIT: usize = 16398;
 
+// The bytes of a buffer that has room for every sheet.
+pub const ROOM: usize = sheet::ROOM;
+
 // Writes the sheet of a file at the buffer's start and returns its length. Later bytes stay.
-fn report_file(file: &[u8], out: &mut [u8; 16384]) -> usize
+fn report_file(file: &[u8], out: &mut [u8; ROOM]) -> usize
     ensures { λ n. ⌜ Printed (sheet (now (file .entry))) (now (out .entry)) (now (out .exit)) n ⌝ }
 {
     let mut cells = [0u64; 512];
@@ -29,7 +32,7 @@ fn report_file(file: &[u8], out: &mut [u8; 16384]) -> usize
 // Writes the sheet of the first `count` bytes of `buffer` at the start of `out` and returns its
 // length. Later bytes stay. A count above the buffer's length means all of it. Where those bytes
 // are the standard input, as far as the buffer has room for it, that is the sheet of the program.
-pub fn report(buffer: &[u8; LIMIT], count: usize, out: &mut [u8; 16384]) -> usize
+pub fn report(buffer: &[u8; LIMIT], count: usize, out: &mut [u8; ROOM]) -> usize
     ensures file { λ n. ⌜ Printed (sheet (take count (now (buffer .entry)))) (now (out .entry)) (now (out .exit)) n ⌝ }
     ensures input { λ n. ⌜ ((input : List ℕ) → Holds (now (buffer .entry)) count input → Printed (printedSheet input) (now (out .entry)) (now (out .exit)) n) ⌝ }
 {

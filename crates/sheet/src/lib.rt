@@ -13,6 +13,9 @@ ghost use Rattle.definitions.specs.Sheet.{digits, places, decimal, figure, mome
 ghost use Rattle.sheet.specs.Puts.{Puts};
 ghost use Rattle.sheet.specs.Printed.{line, lineWidth, Shape, Printable, Printed};
 
+// The bytes of a buffer that has room for every sheet.
+pub const ROOM: usize = 16384;
+
 // The byte of the last decimal digit of x.
 fn last_digit(x: u64) -> u8
     ensures { λ r. ⌜ r ≡ 48 + x % 10 ⌝ }
@@ -131,7 +134,7 @@ pub fn write_sheet(
     states: usize,
     highest: usize,
     cells: &[u64],
-    out: &mut [u8; 16384],
+    out: &mut [u8; ROOM],
 ) -> usize
     requires { ⌜ Printable (answerOf outcome) states highest (now cells) ⌝ }
     ensures { λ n. ⌜ Printed (sheetOf (answerOf outcome) states highest (now (cells .entry))) (now (out .entry)) (now (out .exit)) n ⌝ }
