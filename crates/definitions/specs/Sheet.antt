@@ -39,13 +39,17 @@ unfoldable pub momentLines : ℕ → ℕ → List ℕ → List ℕ
 momentLines R zero cells = []
 momentLines R (suc n) cells = momentLines R n cells ++ momentLine R cells n
 
--- "level " and N in decimal
-unfoldable pub levelLine : ℕ → List ℕ
-levelLine N = 108 ∷ 101 ∷ 118 ∷ 101 ∷ 108 ∷ 32 ∷ decimal N ++ 10 ∷ []
+-- a word and a number in decimal, ended by byte 0A
+abbrev pub wordLine : List ℕ → ℕ → List ℕ
+wordLine word n = word ++ (decimal n ++ 10 ∷ [])
 
--- "refused " and the number in decimal
+-- "level " and N
+unfoldable pub levelLine : ℕ → List ℕ
+levelLine N = wordLine (108 ∷ 101 ∷ 118 ∷ 101 ∷ 108 ∷ 32 ∷ []) N
+
+-- "refused " and the number
 unfoldable pub refusedLine : ℕ → List ℕ
-refusedLine k = 114 ∷ 101 ∷ 102 ∷ 117 ∷ 115 ∷ 101 ∷ 100 ∷ 32 ∷ decimal k ++ 10 ∷ []
+refusedLine k = wordLine (114 ∷ 101 ∷ 102 ∷ 117 ∷ 115 ∷ 101 ∷ 100 ∷ 32 ∷ []) k
 
 -- the sheet of an answer, for M states, the highest moment R and the cells after the call
 unfoldable pub sheetOf : Answer ℕ → ℕ → ℕ → List ℕ → List ℕ

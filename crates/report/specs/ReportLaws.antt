@@ -1,37 +1,27 @@
 -- The sheet that is written is the file's.
 use mathlib.Core.List.{List}
-use mathlib.Core.Path.{_≡_, _∙_, ap}
+use mathlib.Core.Path.{_≡_, refl, subst}
 use Prim.Native.Nat.{ℕ}
-use lib.ListN.{length, replicate}
-use Rattle.definitions.specs.declared.Outcome.{Outcome}
-use Rattle.definitions.specs.declared.Outcome.the-variants as ended
+use lib.ListN.{length, take, replicate}
 use Rattle.definitions.specs.File.{stateCount, highestMoment}
+use Rattle.definitions.specs.Rules.{Answer, refused}
 use Rattle.definitions.specs.Moment.{outcome, cellsAfter}
-use Rattle.definitions.specs.Sheet.{sheetOf, sheet, written}
+use Rattle.definitions.specs.Sheet.{sheetOf, lentCells, readLimit, sheet, printedSheet}
 use Rattle.sheet.specs.Printed.{Printed}
-use Rattle.report.specs.Reported.{Reported}
+use Rattle.report.specs.Held.{Holds}
 
--- the lent cells, as the call knows them
-pub lent-outcome : (s cells : List ℕ) (o : Outcome) → cells ≡ replicate 512 0 → o ≡ outcome s (length cells) → o ≡ outcome s 512
-lent-outcome s cells o zero e = e ∙ ap (λ (l : List ℕ). outcome s (length l)) zero
-
--- the sheet of a refusal reads neither the states nor the cells
-refused-sheet : (s : List ℕ) (k M R : ℕ) (cells : List ℕ) → ended.Refused k ≡ outcome s 512 → sheetOf (ended.Refused k) M R cells ≡ sheet s
-unfolding sheet sheetOf
-refused-sheet s k M R cells e = ap (λ (o : Outcome). sheetOf o (stateCount s) (highestMoment s) (cellsAfter o s (replicate 512 0))) e
-
-pub level-sheet : (s : List ℕ) (o : Outcome) (M R : ℕ) (before cells : List ℕ) → o ≡ outcome s 512 → M ≡ stateCount s → R ≡ highestMoment s → before ≡ replicate 512 0 → cells ≡ cellsAfter o s before → sheetOf o M R cells ≡ sheet s
+-- of an answer with the file's states, moments and cells
+pub level-sheet : (s : List ℕ) (a : Answer ℕ) (M R : ℕ) (cells : List ℕ) → a ≡ outcome s lentCells → M ≡ stateCount s → R ≡ highestMoment s → cells ≡ cellsAfter a s (replicate lentCells 0) → sheetOf a M R cells ≡ sheet s
 unfolding sheet
-level-sheet s o M R before cells e em er zero ec =
-    rw (em, er, ec, zero) (ap (λ (p : Outcome). sheetOf p (stateCount s) (highestMoment s) (cellsAfter p s (replicate 512 0))) e)
+level-sheet s a M R cells e em er ec = rw (em, er, ec, e)
 
-pub reported : {o : Outcome} {M R n : ℕ} {cells old new : List ℕ} (s : List ℕ) → Printed o M R cells old new n → sheetOf o M R cells ≡ sheet s → Reported s old new n
-reported {old = old} s p e =
-    record {
-      counted = p .counted ∙ ap length e;
-      inside = p .inside;
-      bytes = p .bytes ∙ ap (λ (text : List ℕ). written text old) e;
-    }
+-- of a refusal, which reads neither
+pub refused-sheet : (s : List ℕ) (k M R : ℕ) (cells : List ℕ) → refused k ≡ outcome s lentCells → sheetOf (refused k) M R cells ≡ sheet s
+unfolding sheetOf cellsAfter
+refused-sheet s k M R cells e = level-sheet s (refused k) (stateCount s) (highestMoment s) (replicate lentCells 0) e refl refl refl
 
-pub refused-reported : {k M R n : ℕ} {cells old new : List ℕ} (s : List ℕ) → Printed (ended.Refused k) M R cells old new n → ended.Refused k ≡ outcome s 512 → Reported s old new n
-refused-reported {k} {M} {R} {cells = cells} s p e = reported s p (refused-sheet s k M R cells e)
+-- the sheet of what a buffer holds is the program's, where the buffer has room for just as much as is read
+pub held-sheet : (buffer : List ℕ) (count : ℕ) {old new : List ℕ} {n : ℕ} → length buffer ≡ readLimit → Printed (sheet (take count buffer)) old new n → (input : List ℕ) → Holds buffer count input → Printed (printedSheet input) old new n
+unfolding printedSheet
+held-sheet buffer count {old} {new} {n} long p input h =
+    subst (λ (limit : ℕ). Printed (sheet (take limit input)) old new n) long (rw h at p)

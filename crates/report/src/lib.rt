@@ -1,21 +1,23 @@
-// From a model file's bytes to the bytes of its printed sheet.
-ghost use mathlib.Core.Path.{_≡_};
-ghost use lib.ListN.{replicate};
-ghost use Rattle.report.specs.Reported.{Reported};
+// From the bytes on standard input to the bytes of the printed sheet.
 use definitions::Outcome;
+ghost use mathlib.Core.List.{List};
+ghost use Prim.Native.Nat.{ℕ};
+ghost use lib.ListN.{take};
+ghost use Rattle.definitions.specs.Sheet.{sheet, printedSheet};
+ghost use Rattle.sheet.specs.Printed.{Printed};
+ghost use Rattle.report.specs.Held.{Holds};
 
-// The cells that are lent to the calculation.
-fn no_cells() -> [u64; 512]
-    ensures { λ r. ⌜ r ≡ replicate 512 0 ⌝ }
-{
-    [0u64; 512]
-}
+// The bytes of standard input that are judged.
+pub const LIMIT: usize = 16398;
+
+// The bytes of a buffer that has room for every sheet.
+pub const ROOM: usize = sheet::ROOM;
 
 // Writes the sheet of a file at the buffer's start and returns its length. Later bytes stay.
-pub fn report(file: &[u8], out: &mut [u8; 16384]) -> usize
-    ensures { λ n. ⌜ Reported (now (file .entry)) (now (out .entry)) (now (out .exit)) n ⌝ }
+fn report_file(file: &[u8], out: &mut [u8; ROOM]) -> usize
+    ensures { λ n. ⌜ Printed (sheet (now (file .entry))) (now (out .entry)) (now (out .exit)) n ⌝ }
 {
-    let mut cells = no_cells();
+    let mut cells = [0u64; 512];
     let outcome = moments::calculate(file, &mut cells);
     match outcome {
         Outcome::Refused(rule) => sheet::write_sheet(Outcome::Refused(rule), 0, 0, &cells, out),
@@ -24,5 +26,20 @@ pub fn report(file: &[u8], out: &mut [u8; 16384]) -> usize
             let highest = reader::highest_moment(file);
             sheet::write_sheet(Outcome::Level(level), states, highest, &cells, out)
         }
+    }
+}
+
+// Writes the sheet of the first `count` bytes of `buffer` at the start of `out` and returns its
+// length. Later bytes stay. A count above the buffer's length means all of it. Where those bytes
+// are the standard input, as far as the buffer has room for it, that is the sheet of the program.
+pub fn report(buffer: &[u8; LIMIT], count: usize, out: &mut [u8; ROOM]) -> usize
+    ensures file { λ n. ⌜ Printed (sheet (take count (now (buffer .entry)))) (now (out .entry)) (now (out .exit)) n ⌝ }
+    ensures input { λ n. ⌜ ((input : List ℕ) → Holds (now (buffer .entry)) count input → Printed (printedSheet input) (now (out .entry)) (now (out .exit)) n) ⌝ }
+{
+    let whole: &[u8] = buffer;
+    if count < LIMIT {
+        report_file(&whole[..count], out)
+    } else {
+        report_file(whole, out)
     }
 }

@@ -1,3 +1,3 @@
-pub mod Puts
 pub mod Printed
+pub mod Puts
 pub mod TextLaws

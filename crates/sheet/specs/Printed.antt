@@ -1,22 +1,17 @@
--- What `write_sheet` asks and leaves, each named. Assumes nothing.
+-- What the contracts name: a line's text, what is asked of an answer, and what a printed text leaves. Assumes nothing.
 use mathlib.Core.Path.{_≡_}
 use mathlib.Core.List.{List, [], _∷_, _++_}
 use Prim.Native.Nat.{ℕ, _+_, _*_, _≤_}
 use lib.ListN.{length}
-use Rattle.definitions.specs.declared.Outcome.{Outcome}
-use Rattle.definitions.specs.declared.Outcome.the-variants as ended
-use Rattle.definitions.specs.Sheet.{decimal, figure, sheetOf, written}
+use Rattle.definitions.specs.Rules.{Answer, accepted, refused}
+use Rattle.definitions.specs.Sheet.{places, decimal, figure, written}
 
--- one line's text, of a state, an r and a moment's ticks
+-- one line's text, of a state, an r and a moment's ticks, and how wide it is
 abbrev pub line : ℕ → ℕ → ℕ → List ℕ
-line state r ticks = decimal state ++ 32 ∷ decimal r ++ 32 ∷ figure ticks ++ 10 ∷ []
+line state r ticks = (decimal state ++ 32 ∷ []) ++ (decimal r ++ 32 ∷ []) ++ figure ticks ++ 10 ∷ []
 
--- what the writer of the lines asks: at most 20 bytes a line, two digits for a state and one for r
-pub record Lines (at R : ℕ) (cells : List ℕ) (count space : ℕ) : Type 0 where
-  pub room : at + count * 20 ≤ space
-  pub highest : R ≤ 8
-  pub states : count ≤ 64 * R
-  pub filled : count ≤ length cells
+abbrev pub lineWidth : ℕ → ℕ → ℕ
+lineWidth state r = places state 19 + 1 + (places r 19 + 1) + 14 + 1
 
 -- an accepted file's states, highest moment and cells
 pub record Shape (M R : ℕ) (cells : List ℕ) : Type 0 where
@@ -25,13 +20,12 @@ pub record Shape (M R : ℕ) (cells : List ℕ) : Type 0 where
   pub filled : M * R ≤ length cells
 
 -- a level is printed with the moments of its cells, and a refusal asks nothing
-abbrev pub Printable : Outcome → ℕ → ℕ → List ℕ → Type 0
-Printable (ended.Level N) M R cells = Shape M R cells
-Printable (ended.Refused k) M R cells = Unit
+abbrev pub Printable : Answer ℕ → ℕ → ℕ → List ℕ → Type 0
+Printable (accepted N) M R cells = Shape M R cells
+Printable (refused k) M R cells = Unit
 
--- the sheet stands at the buffer's start, the later bytes are as they were, and count is the sheet's length
-pub record Printed (o : Outcome) (M R : ℕ) (cells old new : List ℕ) (count : ℕ) : Type 0 where
-  pub counted : count ≡ length (sheetOf o M R cells)
-  pub fits : count ≤ 16384
+-- the text stands at the buffer's start, the later bytes are as they were, and count is the text's length
+pub record Printed (text old new : List ℕ) (count : ℕ) : Type 0 where
+  pub counted : count ≡ length text
   pub inside : count ≤ length new
-  pub bytes : new ≡ written (sheetOf o M R cells) old
+  pub bytes : new ≡ written text old
