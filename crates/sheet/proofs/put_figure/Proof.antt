@@ -1,12 +1,12 @@
 -- `sheet::put_figure` meets its contract: three texts, one after the other. Assumes nothing.
 use borrow.Author.Needs.{needs}
-use Rattle.definitions.specs.Sheet.{digit, figure}
+use Rattle.definitions.specs.Sheet.{figure}
 use Rattle.sheet.specs.Puts.{then}
 use Rattle.sheet.proofs.put_figure.Statement.{statement}
 use Rattle.sheet.proofs.put_figure.Tie as tie
 
 pub put-figure-spec : {M : Type 1} → statement M
-unfolding figure digit
+unfolding figure
 put-figure-spec =
     tie.close
     (tie.spec
@@ -19,4 +19,4 @@ put-figure-spec =
     let third = c .before .before in
     let second = third .before .before .before .before in
     let first = second .before .before .before .before in
-    rw (← (first .before .last-digit .ensures)) (then (then (first .put .ensures) (second .put2 .ensures)) (third .put-digits .ensures))))
+    rw (← (first .before .digit-at .ensures)) (then (then (first .put .ensures) (second .put2 .ensures)) (third .put-digits .ensures))))
