@@ -157,7 +157,8 @@ pub fn max_reward(file: &[u8]) -> u64
     ensures { λ r. ⌜ r ≡ maxReward (modelOf (now (file .entry))) ⌝ }
 {
     let rewards = rewards_of(file);
-    largest_of(&rewards, state_count(file))
+    let states = state_count(file);
+    largest_of(&rewards, states)
 }
 
 // 5. The rows of rates.
@@ -227,11 +228,15 @@ pub fn sizes_of(file: &[u8], sums: &[u64; 64]) -> Sizes
     requires { ⌜ now sums ≡ padded (stateCount (now file)) (rowSum (modelOf (now file))) ⌝ }
     ensures { λ r. ⌜ r ≡ sizesOf (modelOf (now (file .entry))) ⌝ }
 {
+    let states = state_count(file);
+    let highest = highest_moment(file);
+    let rate = uniform_rate(file, sums);
+    let largest = max_reward(file);
     Sizes {
-        states: state_count(file),
-        highest: highest_moment(file),
-        rate: uniform_rate(file, sums),
-        largest: max_reward(file),
+        states,
+        highest,
+        rate,
+        largest,
     }
 }
 
