@@ -8,7 +8,7 @@ use Rattle.definitions.specs.Chain.{modelOf, jumpMillionths}
 use Rattle.definitions.specs.Rules.{Answer, accepted, refused}
 use Rattle.definitions.specs.Level.{level}
 use Rattle.definitions.specs.Moment.{modelLevel, outcome}
-use Rattle.laws.specs.Acceptance.{facts}
+use Rattle.laws.specs.Acceptance.{accepted-file}
 use Rattle.laws.specs.LevelLaws.{level-is, level-max}
 use Rattle.laws.specs.MomentLaws.{level-accepted, outcome-accepted}
 use Rattle.kuldrepso.specs.Plain.{refusalsFrom, plainAnswer, meant}
@@ -24,12 +24,12 @@ pub level-answer : (s : List ℕ) (cells n : ℕ) → outcome s cells ≡ accept
 unfolding plainAnswer modelLevel
 level-answer s cells n e =
     let passed = level-accepted s cells n e in
-    let good = facts s cells passed .good in
+    let limits = accepted-file s cells passed .limits in
     let same : accepted n ≡ accepted (modelLevel (modelOf s)) = sym e ∙ outcome-accepted s cells passed in
     let number : n ≡ level (jumpMillionths (modelOf s)) (modelOf s .tolerance) = cc in
-    let past = level-is (jumpMillionths (modelOf s)) (modelOf s .tolerance) (good .jumps-max) (good .tolerance-pos) .passes .past in
-    let most = level-max (jumpMillionths (modelOf s)) (modelOf s .tolerance) (good .jumps-max) (good .tolerance-pos) in
-    (ap plainAnswer e, omega (arith, number, past, good .jumps-pos), omega (arith, number, most))
+    let past = level-is (jumpMillionths (modelOf s)) (modelOf s .tolerance) (limits .jumps-max) (limits .tolerance-pos) .passes .past in
+    let most = level-max (jumpMillionths (modelOf s)) (modelOf s .tolerance) (limits .jumps-max) (limits .tolerance-pos) in
+    (ap plainAnswer e, omega (arith, number, past, limits .jumps-pos), omega (arith, number, most))
 
 -- a refusal goes out as refusalsFrom and its row
 pub refusal-answer : (s : List ℕ) (cells k : ℕ) → outcome s cells ≡ refused k → plainAnswer (outcome s cells) ≡ refusalsFrom + k

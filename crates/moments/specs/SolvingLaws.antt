@@ -19,7 +19,7 @@ use Rattle.laws.specs.VectorLaws.{U-bound, U-same}
 use Rattle.laws.specs.WeightLaws.{weight-max, weightSum-min, weightSum-max}
 use Rattle.laws.specs.LevelLaws.{LEVELS, level-max, level-mode}
 use Rattle.laws.specs.MomentLaws.{state-of-cell, count-max, weighted-max}
-use Rattle.laws.specs.Acceptance.{Good, stochastic}
+use Rattle.laws.specs.Acceptance.{WithinLimits, stochastic}
 use Rattle.poisson.specs.CallerLaws.{weight-at}
 use Rattle.vectors.specs.ModelLaws.{held, model-ready}
 use Rattle.moments.specs.Running.{partSum, partSums, Summable, Divisible}
@@ -91,7 +91,7 @@ module _ (z : Sizes) (c f : List ℕ) (X ε : ℕ) (g : Solvable z c f X ε) (w 
       (over-same (M * R) (λ k. lastQuotient (getD (partSums ch w R (level X ε + 1)) k 0) (weightSum X (level X ε))) (cellMean ch X R (level X ε)) cells
       (λ k l. ap (λ (v : ℕ). lastQuotient v (weightSum X (level X ε))) (sum-is k l)))
 
-module _ (m : Model) (g : Good m) where
+module _ (m : Model) (g : WithinLimits m) where
   same : SameChain (held m) (chainOf m)
   same = arrays-same m (g .states-max)
 
@@ -114,8 +114,8 @@ module _ (m : Model) (g : Good m) where
       over-same (m .states * m .highest) (cellMean (held m) (jumpMillionths m) (m .highest) (modelLevel m)) (cell m (modelLevel m)) cells
       (λ k l. mean-same (jumpMillionths m) (modelLevel m) _ _ (λ n h. U-same (held m) (chainOf m) same n (k % m .highest + 1) (k / m .highest) (state-of-cell k (m .states) (m .highest) l)))
 
--- what was read of a good model can be solved, and its solution is the model's level and moments
-module _ (m : Model) (g : Good m) (z : Sizes) (c f : List ℕ) (X ε : ℕ) (e : ReadAs m z c f X ε) where
+-- what was read of a model within its limits can be solved, and its solution is the model's level and moments
+module _ (m : Model) (g : WithinLimits m) (z : Sizes) (c f : List ℕ) (X ε : ℕ) (e : ReadAs m z c f X ε) where
   pub solvable-read : Solvable z c f X ε
   solvable-read = rw (e .sizes, e .entries, e .rewards, e .jumps, e .tolerance) (solvable m g)
 

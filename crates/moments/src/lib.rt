@@ -10,7 +10,7 @@ ghost use Rattle.definitions.specs.Weights.{GREATEST};
 ghost use Rattle.definitions.specs.Level.{level};
 ghost use Rattle.definitions.specs.Moment.{term, lastQuotient, modelLevel, outcome, answerOf, cellsAfter};
 ghost use Rattle.definitions.specs.Promise.{Promised};
-ghost use Rattle.laws.specs.Acceptance.{Facts};
+ghost use Rattle.laws.specs.Acceptance.{AcceptedFile};
 ghost use Rattle.laws.specs.ArrayLaws.{zeros};
 ghost use Rattle.moments.specs.Solving.{cellMean, Solvable};
 ghost use Rattle.moments.specs.Running.{inTable, partSums, Addable, Summable, Divisible};
@@ -112,7 +112,7 @@ fn solve(
 
 // The level and the moments of an accepted file: what it states is read once, row by row.
 fn fill(file: &[u8], cells: &mut [u64]) -> u64
-    requires { ⌜ Facts (now file) (length (now cells)) ⌝ }
+    requires { ⌜ AcceptedFile (now file) (length (now cells)) ⌝ }
     ensures { λ n. ⌜ (n ≡ modelLevel (modelOf (now (file .entry)))) × (now (cells .exit) ≡ cellsAfter (accepted n) (now (file .entry)) (now (cells .entry))) ⌝ }
 {
     let sums = reader::row_sums(file);

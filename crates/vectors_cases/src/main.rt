@@ -1,7 +1,7 @@
 // Writes the reward vectors of the two model files of the input, one with 2 states and one with 64. A line
 // has n, r, and U(n,r) at each state. cases.py makes the files, and the numbers to expect.
 ghost use Prim.Native.Nat.{_≤_};
-ghost use Rattle.laws.specs.Acceptance.{Facts};
+ghost use Rattle.laws.specs.Acceptance.{AcceptedFile};
 ghost use Rattle.vectors.specs.Ready.{Ready};
 use definitions::Judgement;
 use definitions::Sizes;
@@ -33,7 +33,7 @@ fn vectors_of(file: &[u8], last: u64)
 
 // Those of an accepted file: what it states is read once, row by row.
 fn accepted_vectors(file: &[u8], last: u64)
-    requires { ⌜ Facts (now file) 512 × (last ≤ 1024) ⌝ }
+    requires { ⌜ AcceptedFile (now file) 512 × (last ≤ 1024) ⌝ }
 {
     let sums = reader::row_sums(file);
     let sizes = reader::sizes_of(file, &sums);

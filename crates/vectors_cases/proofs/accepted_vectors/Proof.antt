@@ -13,7 +13,7 @@ chain-of-requires c κs = (search needs, (search needs, ap (λ (z : Sizes). z .r
 tables-requires : tie.Need-tables-requires
 tables-requires c κs = (
   rw (c .before .before .before .before .before .sizes-of .ensures, c .before .before .before .chain-of .ensures, c .before .before .rewards-of .ensures)
-      (model-ready _ (c .before .before .before .before .before .before .before .before .before .pre .0 .good)),
+      (model-ready _ (c .before .before .before .before .before .before .before .before .before .pre .0 .limits)),
   omega arith,
 )
 

@@ -3,12 +3,12 @@ use mathlib.Core.Path.{sym, _∙_, ap}
 use native.Mathlib.Omega.{arith}
 use borrow.Author.Needs.{needs}
 use Rattle.definitions.specs.Rules.{verdict}
-use Rattle.laws.specs.Acceptance.{facts}
+use Rattle.laws.specs.Acceptance.{accepted-file}
 use Rattle.vectors_cases.proofs.vectors_of.Statement.{statement}
 use Rattle.vectors_cases.proofs.vectors_of.Tie as tie
 
 accepted-vectors-requires : tie.Need-accepted-vectors-requires
-accepted-vectors-requires c κs = (facts _ _ (sym (c .before .before .judge .ensures) ∙ ap verdict (c .enum-told .given .1)), omega arith)
+accepted-vectors-requires c κs = (accepted-file _ _ (sym (c .before .before .judge .ensures) ∙ ap verdict (c .enum-told .given .1)), omega arith)
 
 pub vectors-of-spec : {M : Type 1} → statement M
 vectors-of-spec =
