@@ -79,6 +79,7 @@ pub fn length_field(file: &[u8]) -> u64
     be(file, LENGTH_AT, 2)
 }
 
+// The version.
 pub fn version(file: &[u8]) -> u64
     requires { ⌜ 13 ≤ length (now file) ⌝ }
     ensures { λ r. ⌜ r ≡ version (now (file .entry)) ⌝ }
