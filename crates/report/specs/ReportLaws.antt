@@ -6,7 +6,7 @@ use lib.ListN.{length, take, replicate}
 use Rattle.definitions.specs.File.{stateCount, highestMoment}
 use Rattle.definitions.specs.Rules.{Answer, refused}
 use Rattle.definitions.specs.Moment.{outcome, cellsAfter}
-use Rattle.definitions.specs.Sheet.{sheetOf, lentCells, readLimit, sheet, printedSheet}
+use Rattle.definitions.specs.Sheet.{refusedLine, sheetOf, lentCells, readLimit, sheet, printedSheet}
 use Rattle.sheet.specs.Printed.{Printed}
 use Rattle.report.specs.Held.{Holds}
 
@@ -15,10 +15,14 @@ pub level-sheet : (s : List ℕ) (a : Answer ℕ) (M R : ℕ) (cells : List ℕ)
 unfolding sheet
 level-sheet s a M R cells e em er ec = rw (em, er, ec, e)
 
--- of a refusal, which reads neither
-pub refused-sheet : (s : List ℕ) (k M R : ℕ) (cells : List ℕ) → refused k ≡ outcome s lentCells → sheetOf (refused k) M R cells ≡ sheet s
+-- of a refusal, which reads none of them
+pub refused-sheet : (s : List ℕ) (k : ℕ) → refused k ≡ outcome s lentCells → refusedLine k ≡ sheet s
 unfolding sheetOf cellsAfter
-refused-sheet s k M R cells e = level-sheet s (refused k) (stateCount s) (highestMoment s) (replicate lentCells 0) e refl refl refl
+refused-sheet s k e = level-sheet s (refused k) (stateCount s) (highestMoment s) (replicate lentCells 0) e refl refl refl
+
+-- what is printed, by another name
+pub printed-as : {text other old new : List ℕ} {n : ℕ} → Printed text old new n → text ≡ other → Printed other old new n
+printed-as p e = rw e at p
 
 -- the sheet of what a buffer holds is the program's, where the buffer has room for just as much as is read
 pub held-sheet : (buffer : List ℕ) (count : ℕ) {old new : List ℕ} {n : ℕ} → length buffer ≡ readLimit → Printed (sheet (take count buffer)) old new n → (input : List ℕ) → Holds buffer count input → Printed (printedSheet input) old new n

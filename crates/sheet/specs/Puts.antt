@@ -1,11 +1,11 @@
 -- What a writer does: it stores a text in the buffer from a place on. Assumes nothing.
-use mathlib.Core.Path.{_≡_, refl, _∙_}
+use mathlib.Core.Path.{_≡_, refl, _∙_, ap}
 use mathlib.Core.List.{List, [], _∷_, _++_}
 use Prim.Native.Nat.{ℕ, suc, _+_, _≤_}
 use native.Mathlib.Nat.{suc-add, add-suc, add-zero, zero-add}
 use native.Mathlib.Numerals.{add-one}
 use native.Mathlib.Omega.{arith}
-use lib.ListN.{length, set, length-append}
+use lib.ListN.{length, set, drop, length-append}
 use lib.Seq.{sets, sets-eq, length-sets}
 use Rattle.definitions.specs.Sheet.{written}
 use Rattle.sheet.specs.Printed.{Printed}
@@ -48,5 +48,5 @@ printed {text} {old} h p =
     record {
       counted = omega arith;
       inside = rw (p .bytes, length-sets) (omega arith);
-      bytes = p .bytes ∙ sets-eq text old 0 (omega arith) ∙ rw zero-add;
+      bytes = p .bytes ∙ sets-eq text old 0 (omega arith) ∙ ap (λ (n : ℕ). text ++ drop n old) (zero-add (length text));
     }

@@ -155,8 +155,8 @@ fn put_lines(out: &mut [u8], at: usize, states: usize, highest: usize, cells: &[
 
 // A word, a number and the line's end, from the buffer's start.
 fn put_word_line(out: &mut [u8], word: &[u8], n: u64) -> usize
-    requires { ⌜ length (now word) + 21 ≤ length (now out) ⌝ }
-    ensures { λ r. ⌜ Puts (wordLine (now (word .entry)) n) (length (now (word .entry)) + 21) 0 (now (out .entry)) (now (out .exit)) r ⌝ }
+    requires { ⌜ length (now word) + (places n 19 + 1) ≤ length (now out) ⌝ }
+    ensures { λ r. ⌜ Puts (wordLine (now (word .entry)) n) (length (now (word .entry)) + (places n 19 + 1)) 0 (now (out .entry)) (now (out .exit)) r ⌝ }
 {
     let number = put_word(out, 0, word);
     put_number(out, number, n, b'\n')

@@ -4,9 +4,10 @@ use native.Mathlib.Omega.{arith}
 use denote.Ref.{now}
 use borrow.Author.Needs.{needs}
 use Rattle.definitions.specs.Moment.{answerOf}
+use Rattle.definitions.specs.Sheet.{sheetOf}
 use Rattle.laws.specs.Acceptance.{AcceptedFile, accepted-file}
 use Rattle.laws.specs.MomentLaws.{level-accepted}
-use Rattle.report.specs.ReportLaws.{level-sheet, refused-sheet}
+use Rattle.report.specs.ReportLaws.{level-sheet, refused-sheet, printed-as}
 use Rattle.report.proofs.report_file.Statement.{statement}
 use Rattle.report.proofs.report_file.Tie as tie
 
@@ -17,6 +18,7 @@ known c =
     accepted-file s 512 (level-accepted s 512 _ (sym (c .before .before .before .before .calculate .ensures .0) ∙ ap answerOf (c .before .outcome2 .given .1)))
 
 pub report-file-spec : {M : Type 1} → statement M
+unfolding sheetOf
 report-file-spec =
     tie.close
     (tie.spec
@@ -38,9 +40,9 @@ report-file-spec =
     (λ c.
     let call = c .before .before .before .before .before .before .before in
     let s = now (call .before .before .before .args .file) in
-    rw (refused-sheet s _ _ _ _ (sym (ap answerOf (c .before .before .before .before .outcome .given .1)) ∙ call .calculate .ensures .0)) at (c .write-sheet .ensures))
+    printed-as (c .write-sheet .ensures) (refused-sheet s _ (sym (ap answerOf (c .before .before .before .before .outcome .given .1)) ∙ call .calculate .ensures .0)))
     (λ c.
     let call = c .before .before .before .before .before .before .before .before .before in
     let s = now (call .before .before .before .args .file) in
     let level = c .before .before .before .before .before .before .outcome2 .given .1 in
-    rw (level-sheet s _ _ _ _ (sym (ap answerOf level) ∙ call .calculate .ensures .0) (c .before .before .before .before .state-count .ensures) (c .before .before .before .highest-moment .ensures) (rw level at (call .calculate .ensures .1 .0))) at (c .write-sheet2 .ensures)))
+    printed-as (c .write-sheet2 .ensures) (level-sheet s _ _ _ _ (sym (ap answerOf level) ∙ call .calculate .ensures .0) (c .before .before .before .before .state-count .ensures) (c .before .before .before .highest-moment .ensures) (rw level at (call .calculate .ensures .1 .0)))))

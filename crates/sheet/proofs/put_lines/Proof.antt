@@ -13,7 +13,7 @@ use Rattle.sheet.proofs.put_lines.Statement.{statement}
 use Rattle.sheet.proofs.put_lines.Tie as tie
 
 abbrev Inv-loop : tie.InvT-loop
-Inv-loop out₀ at states highest cells count to₀ k₀ out to k = Puts (momentLines highest k cells) (k * 20) at out₀ out to × (k ≤ count) × (length out ≡ length out₀)
+Inv-loop out₀ at states highest cells count to₀ k₀ out to k = (k ≤ count) × Puts (momentLines highest k cells) (k * 20) at out₀ out to × (length out ≡ length out₀)
 
 abbrev μ-loop : tie.MeasureT-loop
 μ-loop out₀ at states highest cells count to₀ k₀ out to k = count - k
@@ -29,7 +29,7 @@ put-lines-spec =
     Inv-loop
     μ-loop
     (λ c. omega (arith, area (c .before .before .pre .0)))
-    (λ c. (nothing, omega arith, refl))
+    (λ c. (omega arith, nothing, refl))
     (λ c. numbers c .some)
     (λ c. omega (arith, numbers c))
     (λ c. numbers c .some)
@@ -44,9 +44,9 @@ put-lines-spec =
     let inside = call .before .before .before in
     let k = inside .before .loop .k in
     let args = inside .before .before .before .before .args in
-    (rw (add-one k, line-of (args .highest) k (now (args .cells))) (wider (omega (arith, numbers inside)) (then (inside .before .loop .inv .0) (call .put-line .ensures))), omega arith, omega (arith, call .put-line .kept)))
+    (omega arith, rw (add-one k, line-of (args .highest) k (now (args .cells))) (wider (omega (arith, numbers inside)) (then (inside .before .loop .inv .1) (call .put-line .ensures))), omega (arith, call .put-line .kept)))
     (λ c. search needs)
     (λ c.
     let args = c .before .before .before .before .args in
     let all : c .before .loop .k ≡ args .states * args .highest = omega arith in
-    rw (← all) (c .before .loop .inv .0)))
+    rw (← all) (c .before .loop .inv .1)))

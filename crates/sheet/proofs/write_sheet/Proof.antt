@@ -5,7 +5,7 @@ use borrow.Author.Needs.{needs}
 use Rattle.definitions.specs.Sheet.{levelLine, refusedLine, sheetOf}
 use Rattle.sheet.specs.Puts.{then, printed}
 use Rattle.sheet.specs.Printed.{Shape}
-use Rattle.sheet.specs.TextLaws.{area}
+use Rattle.sheet.specs.TextLaws.{area, places-limit}
 use Rattle.sheet.proofs.write_sheet.Statement.{statement}
 use Rattle.sheet.proofs.write_sheet.Tie as tie
 
@@ -20,13 +20,19 @@ write-sheet-spec =
     (tie.spec
     (λ c. search needs)
     (λ c. search needs)
-    (λ c κs. search needs)
-    (λ c κs. let h = shape (c .before .before .before .before .before) in (h, omega (arith, area h)))
+    (λ c κs. omega (arith, places-limit (c .before .before .before .outcome .given .0 .0) 19))
+    (λ c κs.
+    let level = c .before .before .before .before .before in
+    (shape level, omega (arith, area (shape level), places-limit (level .outcome .given .0 .0) 19)))
     (λ c. search needs)
     (λ c. search needs)
     (λ c. search needs)
-    (λ c κs. search needs)
+    (λ c κs. omega (arith, places-limit (c .before .before .before .outcome2 .given .0 .0) 19))
     (λ c.
     let level = c .before .before .before .before .before .before in
-    rw (level .outcome .given .1) (printed (omega (arith, area (shape level))) (then (c .before .before .put-word-line .ensures) (c .put-lines .ensures))))
-    (λ c. rw (c .before .before .before .before .outcome2 .given .1) (printed (omega arith) (c .put-word-line2 .ensures))))
+    let text = printed (omega (arith, area (shape level), places-limit (level .outcome .given .0 .0) 19)) (then (c .before .before .put-word-line .ensures) (c .put-lines .ensures)) in
+    rw (level .outcome .given .1) text)
+    (λ c.
+    let refusal = c .before .before .before .before in
+    let text = printed (omega (arith, places-limit (refusal .outcome2 .given .0 .0) 19)) (c .put-word-line2 .ensures) in
+    rw (refusal .outcome2 .given .1) text))
