@@ -1,5 +1,5 @@
 -- What the reader's contracts cite besides document 01's definitions, and the laws that its callers use.
 pub mod Framed
-pub mod Filling
+pub mod SizesRead
 pub mod Big
 pub mod Rows

@@ -6,7 +6,7 @@ use borrow.Author.Needs.{needs}
 use Rattle.definitions.specs.Sums.{largest}
 use Rattle.definitions.specs.Chain.{modelOf}
 use Rattle.laws.specs.ArrayLaws.{entryOf}
-use Rattle.reader.specs.Filling.{reward-of-rewards}
+use Rattle.reader.specs.SizesRead.{reward-of-rewards}
 use Rattle.reader.proofs.max_reward.Statement.{statement}
 use Rattle.reader.proofs.max_reward.Tie as tie
 

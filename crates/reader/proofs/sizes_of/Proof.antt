@@ -1,6 +1,6 @@
 -- `reader::sizes_of` meets its contract. Assumes nothing.
 use borrow.Author.Needs.{needs}
-use Rattle.reader.specs.Filling.{sizes-read}
+use Rattle.reader.specs.SizesRead.{sizes-read}
 use Rattle.reader.proofs.sizes_of.Statement.{statement}
 use Rattle.reader.proofs.sizes_of.Tie as tie
 

@@ -3,7 +3,7 @@ use mathlib.Core.Path.{_∙_}
 use native.Mathlib.Omega.{arith}
 use borrow.Author.Needs.{needs}
 use Rattle.definitions.specs.Chain.{modelOf}
-use Rattle.reader.specs.Filling.{rate-of-sums}
+use Rattle.reader.specs.SizesRead.{rate-of-sums}
 use Rattle.reader.proofs.uniform_rate.Statement.{statement}
 use Rattle.reader.proofs.uniform_rate.Tie as tie
 

@@ -1,4 +1,4 @@
--- Arrays that start as zeros and are filled from the front.
+-- E and F from the arrays that were read, and the sizes of a model.
 use Prim.Native.Nat.{ℕ, _≤_, max}
 use mathlib.Core.Path.{_≡_, refl}
 use mathlib.Core.List.{List}
