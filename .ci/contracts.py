@@ -4,6 +4,7 @@
 import pathlib
 import re
 import sys
+from collections import namedtuple
 
 ROOT = pathlib.Path(__file__).resolve().parent.parent
 HEAD = re.compile(r'\bpub\s*(?:\([^)]*\)\s*)?(?:(?:const|extern\s*"[^"]*")\s*)*\bfn\s+(\w+)')
@@ -33,27 +34,32 @@ def code(text):
     return NO_CODE.sub(lambda match: re.sub(r'[^\n"]', " ", match.group()), text)
 
 
-def speaks(text, at):
-    """Whether an `ensures` stands between the header at `at` and its body."""
-    depth, clause_from = 0, at
-    for place in range(at, len(text)):
+Function = namedtuple("Function", "name line spoke body end")
+
+
+def function(text, head):
+    """The public function whose header matches: whether an `ensures` stands before its body, and where that starts and ends."""
+    depth, clause_from, spoke, body = 0, head.start(), False, None
+    for place in range(head.start(), len(text)):
         sign = text[place]
         if sign == "{" and depth == 0:
             clause = CLAUSE.search(text, clause_from, place)
-            if clause is None or clause.group(1) == "ensures":
-                return clause is not None
+            spoke = spoke or clause is not None and clause.group(1) == "ensures"
+            body = place if clause is None else None
         depth += (sign in "([{") - (sign in ")]}")
         if sign in ")]}" and depth == 0:
             clause_from = place + 1
-    return False
+            if body is not None:
+                return Function(head.group(1), text.count("\n", 0, head.start()) + 1, spoke, body, place)
+    raise ValueError(f"pub fn {head.group(1)} has no end")
 
 
 def scan(text):
-    """(name, line, whether its contract speaks of the result) of each public function."""
+    """The public functions of a source text."""
     text = code(text)
     if "/*" in text:
         raise ValueError("a comment in /* */: only // is read here")
-    return [(match.group(1), text.count("\n", 0, match.start()) + 1, speaks(text, match.start())) for match in HEAD.finditer(text)]
+    return [function(text, head) for head in HEAD.finditer(text)]
 
 
 def self_test():
@@ -62,7 +68,7 @@ def self_test():
     for form in FORMS:
         for clause in ["", *CLAUSES]:
             text = form.replace("@", clause)
-            if [(name, spoke) for name, _, spoke in scan(text)] != [("f", clause != "")]:
+            if [(found.name, found.spoke) for found in scan(text)] != [("f", clause != "")]:
                 wrong.append(text)
     return wrong
 
@@ -73,10 +79,10 @@ def main():
         print(f"contracts.py reads this wrongly:\n{text}", file=sys.stderr)
     count, bad = 0, []
     for path in sorted(ROOT.glob("crates/*/src/**/*.rt")):
-        for name, line, spoke in scan(path.read_text(encoding="utf-8")):
+        for found in scan(path.read_text(encoding="utf-8")):
             count += 1
-            if not spoke:
-                bad.append(f"{path.relative_to(ROOT)}:{line}: pub fn {name} has no ensures")
+            if not found.spoke:
+                bad.append(f"{path.relative_to(ROOT)}:{found.line}: pub fn {found.name} has no ensures")
     for line in bad:
         print(line, file=sys.stderr)
     if count == 0:

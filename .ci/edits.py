@@ -3,7 +3,8 @@
 
     python3 .ci/edits.py             write it
     python3 .ci/edits.py --check     fail where it would be another, where an edit has no comment on its first line,
-                                     or where the first refusal in a log is no fact that fails
+                                     where the first refusal in a log is no fact that fails, or where no edit
+                                     changes the body of a public function
     --target DIR                     the folder with must-fail/, if not target/
 
 A refusal that only follows from an earlier one ("cannot be checked") is passed over. SAMPLES is tried first.
@@ -14,6 +15,8 @@ import pathlib
 import re
 import sys
 from collections import namedtuple
+
+import contracts
 
 ROOT = pathlib.Path(__file__).resolve().parent.parent
 PAGE = ROOT / "docs/EDITS.md"
@@ -132,6 +135,25 @@ def edits():
     return [(crate, path.stem, path) for crate in crates for path in sorted((ROOT / "crates" / crate / "must-fail").glob("*.edit"))]
 
 
+def untouched(listed):
+    """The public functions in whose body no edit changes anything."""
+    changes = {}  # (crate, file) to the texts that its edits replace
+    for crate, _, path in listed:
+        name = ""
+        for line in path.read_text(encoding="utf-8").splitlines():
+            name = line[6:] if line.startswith("file: ") else name
+            if line.startswith("old: "):
+                changes.setdefault((crate, name), []).append(line[5:])
+    for path in sorted(ROOT.glob("crates/*/src/**/*.rt")):
+        crate, *rest = path.relative_to(ROOT / "crates").parts
+        name = "/".join(rest)
+        text = path.read_text(encoding="utf-8")
+        places = [text.find(old) for old in changes.get((crate, name), [])]
+        for found in contracts.scan(text):
+            if not any(found.body < place < found.end for place in places):
+                yield f"{crate}: no edit changes the body of pub fn {found.name}"
+
+
 def row(crate, label, path, target):
     """A line of the table, and what is wrong with the edit."""
     faults = []
@@ -161,6 +183,7 @@ def main():
         line, wrong = row(crate, label, path, options.target)
         page += line
         faults += wrong
+    faults += untouched(listed)
     if not listed:
         faults.append("no edit was found under crates/: the script looked in the wrong place")
     if not options.check:

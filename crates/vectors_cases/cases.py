@@ -1,12 +1,7 @@
 #!/usr/bin/env python3
-"""The expected output of vectors_cases, from document 01's text in whole numbers with no width.
+"""Writes stdin and stdout: two model files, one after the other, and the lines of their reward vectors.
 
-Run from the root of the repository:
-
-    python3 crates/vectors_cases/cases.py
-
-It writes crates/vectors_cases/stdout, and says E and F of the model with 64 states, which
-src/main.rt has as constants.
+The vectors are computed here from document 01's text alone, in whole numbers with no width.
 """
 
 import os
@@ -48,23 +43,31 @@ def lines(rates, rewards, highest, last):
                 yield " ".join(str(x) for x in [n, r] + u[n, r])
 
 
-def many():
-    """The model with 64 states: the rates, 0 at j = i, and the rewards."""
-    states = range(64)
-    rates = [[0 if i == j else (i * 7 + j * 3) % 11 * 12347 for j in states] for i in states]
-    return rates, [i * 37 % 64 * 15013 for i in states]
+def file_of(rates, rewards, highest, tolerance, time):
+    """The model's bytes: the rates row after row, the diagonal left out."""
+    states = range(len(rates))
+    numbers = [tolerance, time] + rewards + [rates[i][j] for i in states for j in states if j != i]
+    body = bytes([1, len(rates), highest]) + b"".join(x.to_bytes(4, "big") for x in numbers)
+    return len(body).to_bytes(2, "big") + body
+
+
+# the rates, 0 at j = i, the rewards, and R: of document 01's file B, and of a model with 64 states
+TWO = [[0, 1000000], [1000000, 0]], [1, 0], 2
+MANY = (
+    [[0 if i == j else (i * 7 + j * 3) % 11 * 12347 for j in range(64)] for i in range(64)],
+    [i * 37 % 64 * 15013 for i in range(64)],
+    4,
+)
 
 
 def main():
-    two = [[0, 1000000], [1000000, 0]], [1, 0]
     here = os.path.dirname(os.path.abspath(__file__))
+    with open(os.path.join(here, "stdin"), "wb") as out:
+        out.write(file_of(*TWO, 100000000, 1))
+        out.write(file_of(*MANY, 10000, 1))
     with open(os.path.join(here, "stdout"), "w") as out:
-        for line in lines(*two, 2, 3):
-            out.write(line + "\n")
-        for line in lines(*many(), 4, 9):
-            out.write(line + "\n")
-    rates, rewards = many()
-    print("E", chain_of(rates)[1], "F", max(rewards))
+        out.writelines(line + "\n" for line in lines(*TWO, 3))
+        out.writelines(line + "\n" for line in lines(*MANY, 9))
 
 
 main()

@@ -1,13 +1,18 @@
--- An outcome as one plain number, for callers that have no enum of Rattle's.
-use Prim.Native.Nat.{ℕ, _+_}
-use Rattle.definitions.specs.declared.Outcome.{Outcome}
+-- The answer of a call as one plain number, for callers that have no enum of Rattle's.
+use Prim.Native.Nat.{ℕ, _+_, _-_}
+use lib.Dec.{ltb}
 use Rattle.definitions.specs.Sums.{pick}
-use Rattle.definitions.specs.Moment.{accepts, numberOf}
+use Rattle.definitions.specs.Rules.{Answer, accepted, refused}
 
 -- what refusals start from
 abbrev pub refusalsFrom : ℕ
 refusalsFrom = 1000000
 
--- document 01's number of the outcome, the level of an acceptance or the row of a refusal; with refusalsFrom more for a refusal
-unfoldable pub plainAnswer : Outcome → ℕ
-plainAnswer o = pick (accepts o) (numberOf o) (refusalsFrom + numberOf o)
+-- what an acceptance returns, and for a refusal the number of its row with refusalsFrom added
+unfoldable pub plainAnswer : Answer ℕ → ℕ
+plainAnswer (accepted n) = n
+plainAnswer (refused k) = refusalsFrom + k
+
+-- the answer that a plain number stands for: below refusalsFrom an acceptance, any other a refusal
+unfoldable pub meant : ℕ → Answer ℕ
+meant x = pick (ltb x refusalsFrom) (accepted x) (refused (x - refusalsFrom))

@@ -1,71 +1,45 @@
 -- The plain answer of a call says what its outcome says: whether it accepts, and the number.
-use Prim.Native.Nat.{ℕ, _+_, _≤_}
+use Prim.Native.Nat.{ℕ, _+_, _≤_, _<_}
 use native.Mathlib.Omega.{arith}
 use mathlib.Core.Path.{_≡_, refl, sym, _∙_, ap}
 use mathlib.Core.List.{List}
-use lib.Dec.{ltb}
 use borrow.Author.Tests.{lt-ltb, le-ltb}
-use Rattle.definitions.specs.declared.Outcome.{Outcome}
-use Rattle.definitions.specs.declared.Outcome.the-variants as ended
 use Rattle.definitions.specs.Chain.{modelOf, jumpMillionths}
-use Rattle.definitions.specs.Moment.{modelLevel, outcome, accepts, numberOf}
-use Rattle.laws.specs.Acceptance.{facts}
-use Rattle.laws.specs.LevelLaws.{level-max}
+use Rattle.definitions.specs.Rules.{Answer, accepted, refused}
+use Rattle.definitions.specs.Level.{level}
+use Rattle.definitions.specs.Moment.{modelLevel, outcome}
+use Rattle.laws.specs.Acceptance.{accepted-file}
+use Rattle.laws.specs.LevelLaws.{level-is, level-max}
 use Rattle.laws.specs.MomentLaws.{level-accepted, outcome-accepted}
-use Rattle.kuldrepso.specs.Plain.{refusalsFrom, plainAnswer}
+use Rattle.kuldrepso.specs.Plain.{refusalsFrom, plainAnswer, meant}
 
--- the level of an accepting call is at most 563
-pub answered-level : (s : List ℕ) (cells n : ℕ) → outcome s cells ≡ ended.Level n → n ≤ 563
-unfolding modelLevel
-answered-level s cells n e =
-    let accepted = level-accepted s cells n e in
-    let good = facts s cells accepted .good in
-    let same : ended.Level n ≡ ended.Level (modelLevel (modelOf s)) = sym e ∙ outcome-accepted s cells accepted in
-    let number : n ≡ modelLevel (modelOf s) = cc in
-    rw number (level-max (jumpMillionths (modelOf s)) (modelOf s .tolerance) (good .jumps-max) (good .tolerance-pos))
+-- a plain number stands for its answer, where acceptances return less than refusalsFrom
+pub answer-meant : (a : Answer ℕ) → ((n : ℕ) → a ≡ accepted n → n < refusalsFrom) → meant (plainAnswer a) ≡ a
+unfolding plainAnswer meant
+answer-meant (accepted n) below = rw (lt-ltb n refusalsFrom (below n refl)) refl
+answer-meant (refused k) below = rw (le-ltb (refusalsFrom + k) refusalsFrom (omega arith)) (ap refused (omega arith))
 
--- an acceptance goes out as its level, at most 563
-pub level-answer : (s : List ℕ) (cells n : ℕ) → outcome s cells ≡ ended.Level n → (plainAnswer (outcome s cells) ≡ n) × (n ≤ 563)
-unfolding plainAnswer accepts numberOf
-level-answer s cells n e = (ap plainAnswer e, answered-level s cells n e)
+-- an acceptance goes out as its level, 1 to 563
+pub level-answer : (s : List ℕ) (cells n : ℕ) → outcome s cells ≡ accepted n → (plainAnswer (outcome s cells) ≡ n) × (1 ≤ n) × (n ≤ 563)
+unfolding plainAnswer modelLevel
+level-answer s cells n e =
+    let passed = level-accepted s cells n e in
+    let limits = accepted-file s cells passed .limits in
+    let same : accepted n ≡ accepted (modelLevel (modelOf s)) = sym e ∙ outcome-accepted s cells passed in
+    let number : n ≡ level (jumpMillionths (modelOf s)) (modelOf s .tolerance) = cc in
+    let past = level-is (jumpMillionths (modelOf s)) (modelOf s .tolerance) (limits .jumps-max) (limits .tolerance-pos) .passes .past in
+    let most = level-max (jumpMillionths (modelOf s)) (modelOf s .tolerance) (limits .jumps-max) (limits .tolerance-pos) in
+    (ap plainAnswer e, omega (arith, number, past, limits .jumps-pos), omega (arith, number, most))
 
 -- a refusal goes out as refusalsFrom and its row
-pub refusal-answer : (s : List ℕ) (cells k : ℕ) → outcome s cells ≡ ended.Refused k → plainAnswer (outcome s cells) ≡ refusalsFrom + k
-unfolding plainAnswer accepts numberOf
+pub refusal-answer : (s : List ℕ) (cells k : ℕ) → outcome s cells ≡ refused k → plainAnswer (outcome s cells) ≡ refusalsFrom + k
+unfolding plainAnswer
 refusal-answer s cells k e = ap plainAnswer e
 
--- so an answer below refusalsFrom is an acceptance, and any other a refusal
-pub answer-accepts : (s : List ℕ) (cells : ℕ) → accepts (outcome s cells) ≡ ltb (plainAnswer (outcome s cells)) refusalsFrom
-unfolding accepts
-answer-accepts s cells = by-case (outcome s cells) refl
-  where
-    by-case : (o : Outcome) → outcome s cells ≡ o → accepts (outcome s cells) ≡ ltb (plainAnswer (outcome s cells)) refusalsFrom
-    by-case (ended.Level n) e =
-        let level = level-answer s cells n e in
-        ap accepts e ∙ sym (lt-ltb (plainAnswer (outcome s cells)) refusalsFrom (omega arith))
-    by-case (ended.Refused k) e =
-        ap accepts e ∙ sym (le-ltb (plainAnswer (outcome s cells)) refusalsFrom (omega (arith, refusal-answer s cells k e)))
+-- so the number tells the outcome: an answer below refusalsFrom is an acceptance, and any other a refusal
+pub outcome-meant : (s : List ℕ) (cells : ℕ) → meant (plainAnswer (outcome s cells)) ≡ outcome s cells
+outcome-meant s cells = answer-meant (outcome s cells) (λ n e. omega (arith, level-answer s cells n e .2))
 
 -- and two calls that answer the same number have the same outcome
 pub answer-tells : (s : List ℕ) (cells : ℕ) (s' : List ℕ) (cells' : ℕ) → plainAnswer (outcome s cells) ≡ plainAnswer (outcome s' cells') → outcome s cells ≡ outcome s' cells'
-answer-tells s cells s' cells' same = by-case (outcome s cells) (outcome s' cells') refl refl
-  where
-    by-case : (o p : Outcome) → outcome s cells ≡ o → outcome s' cells' ≡ p → outcome s cells ≡ outcome s' cells'
-    by-case (ended.Level n) (ended.Level k) e f =
-        let level = level-answer s cells n e .0 in
-        let other = level-answer s' cells' k f .0 in
-        let number : n ≡ k = omega arith in
-        cc
-    by-case (ended.Level n) (ended.Refused k) e f =
-        let level = level-answer s cells n e in
-        let other = refusal-answer s' cells' k f in
-        absurd (omega arith)
-    by-case (ended.Refused n) (ended.Level k) e f =
-        let row = refusal-answer s cells n e in
-        let other = level-answer s' cells' k f in
-        absurd (omega arith)
-    by-case (ended.Refused n) (ended.Refused k) e f =
-        let row = refusal-answer s cells n e in
-        let other = refusal-answer s' cells' k f in
-        let number : n ≡ k = omega arith in
-        cc
+answer-tells s cells s' cells' same = sym (outcome-meant s cells) ∙ ap meant same ∙ outcome-meant s' cells'

@@ -19,9 +19,8 @@ pub extern "C" fn kuldrepso_calculate(file: &[u8], cells: &mut [u64]) -> u64
     ensures cells { λ r. ⌜ now (cells .exit) ≡ cellsAfter (outcome (now (file .entry)) (length (now (cells .entry)))) (now (file .entry)) (now (cells .entry)) ⌝ }
     ensures promise { λ r. ⌜ Promised (outcome (now (file .entry)) (length (now (cells .entry)))) (now (file .entry)) (now (cells .exit)) ⌝ }
 {
-    let outcome = moments::calculate(file, cells);
-    match outcome {
+    match moments::calculate(file, cells) {
         Outcome::Level(level) => level,
-        Outcome::Refused(rule) => REFUSED + rule as u64,
+        Outcome::Refused(row) => REFUSED + row as u64,
     }
 }

@@ -52,7 +52,7 @@ pub record Framed (s : List ℕ) : Type 0 where
   pub size : length s ≡ 4 * stateCount s * stateCount s + 13
 
 -- what the steps may assume of a model
-pub record Good (m : Model) : Type 0 where
+pub record WithinLimits (m : Model) : Type 0 where
   pub states-pos : 1 ≤ m .states
   pub states-max : m .states ≤ 64
   pub highest-pos : 1 ≤ m .highest
@@ -69,9 +69,9 @@ pub record Good (m : Model) : Type 0 where
   pub jumps-max : jumpMillionths m ≤ 256000000
 
 -- what acceptance tells of a file lent with a number of cells
-pub record Facts (s : List ℕ) (cells : ℕ) : Type 0 where
+pub record AcceptedFile (s : List ℕ) (cells : ℕ) : Type 0 where
   pub framed : Framed s
-  pub good : Good (modelOf s)
+  pub limits : WithinLimits (modelOf s)
   pub room : stateCount s * highestMoment s ≤ cells
 
 -- the rows 1 to 6, read the other way
@@ -93,9 +93,9 @@ framed-by s row =
     }
 
 -- the rows 7 to 12
-pub good-by : (s : List ℕ) → Framed s → NoneHold (quantities s) → NoneHold (jumps (uniformRate (modelOf s)) (timeField s)) → Good (modelOf s)
+pub limits-by : (s : List ℕ) → Framed s → NoneHold (quantities s) → NoneHold (jumps (uniformRate (modelOf s)) (timeField s)) → WithinLimits (modelOf s)
 unfolding quantities jumps maxReward uniformRate jumpMillionths
-good-by s f row row12 =
+limits-by s f row row12 =
     let row9 = row .1 .1 in
     let tolerance = in-range (toleranceField s) 100000000 (row .0) in
     let time : timeField s ≡ 0 → ⊥ = eqb-false (timeField s) 0 (row .1 .0) in
@@ -140,9 +140,9 @@ unfolding judgement rows
 judgement-in-parts s cells = rw append-assoc (in-parts (framing s ++ quantities s) _ (uniformRate (modelOf s)) tt)
 
 -- all of them: what acceptance tells
-pub facts : (s : List ℕ) (cells : ℕ) → judgement s cells ≡ accepted tt → Facts s cells
+pub accepted-file : (s : List ℕ) (cells : ℕ) → judgement s cells ≡ accepted tt → AcceptedFile s cells
 unfolding judgement rows room
-facts s cells passed =
+accepted-file s cells passed =
     let X : Rows = jumps (uniformRate (modelOf s)) (timeField s) in
     let C : Rows = room (stateCount s * highestMoment s) cells in
     let last = none-in-parts (framing s ++ quantities s ++ X) C (none-hold (rows s cells) (tt {0}) tt passed) in
@@ -151,7 +151,7 @@ facts s cells passed =
     let f : Framed s = framed-by s (to11 .0) in
     record {
       framed = f;
-      good = good-by s f (to11 .1) (to12 .1);
+      limits = limits-by s f (to11 .1) (to12 .1);
       room = ltb-false cells (stateCount s * highestMoment s) (last .1 .0);
     }
 

@@ -16,9 +16,9 @@ use Rattle.laws.specs.VectorLaws.{U-bound}
 use Rattle.laws.specs.VectorError.{vector-near}
 use Rattle.laws.specs.AverageBound.{Setting, LastQuotient, close-at-level, close-past-level}
 use Rattle.laws.specs.MomentLaws.{getD-moment, last-down, outcome-refused, outcome-accepted}
-use Rattle.laws.specs.Acceptance.{Good, Facts, facts, stochastic}
+use Rattle.laws.specs.Acceptance.{WithinLimits, AcceptedFile, accepted-file, stochastic}
 
-module _ (m : Model) (g : Good m) where
+module _ (m : Model) (g : WithinLimits m) where
   -- U of a state below M for moment r, as n runs
   abbrev sequence : ℕ → ℕ → ℕ → ℕ
   sequence r i n = U (chainOf m) n r i
@@ -61,12 +61,12 @@ module _ (m : Model) (g : Good m) where
 pub demand3 : (s cells : List ℕ) → judgement s (length cells) ≡ accepted tt → Promise s (modelLevel (modelOf s)) (cellsAfter (accepted (modelLevel (modelOf s))) s cells)
 unfolding cellsAfter
 demand3 s cells passed =
-    let f : Facts s (length cells) = facts s (length cells) passed in
+    let f : AcceptedFile s (length cells) = accepted-file s (length cells) passed in
     record {
-      rewarded = f .good .rewards-pos;
+      rewarded = f .limits .rewards-pos;
       close =
           λ i r l low high.
-          rw (getD-moment (modelOf s) (modelLevel (modelOf s)) i r cells l low high) (moment-close (modelOf s) (f .good) r i l);
+          rw (getD-moment (modelOf s) (modelLevel (modelOf s)) i r cells l low high) (moment-close (modelOf s) (f .limits) r i l);
     }
 
 -- and for every file, by what the call answers of it

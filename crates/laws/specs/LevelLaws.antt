@@ -1,5 +1,5 @@
 -- The truncation level: the computed one is the least n that passes both tests, and it is at most 2m + 51.
-use Prim.Native.Nat.{ℕ, zero, suc, _+_, _*_, _-_, _/_, _≤_}
+use Prim.Native.Nat.{ℕ, zero, suc, _+_, _*_, _-_, _/_, _≤_, _<_}
 use native.Mathlib.Omega.{arith}
 use native.Mathlib.Nat.{mul-le-mul, mul-le-mul-left, le-refl}
 use mathlib.Core.Path.{_≡_, refl}
@@ -51,6 +51,10 @@ found X ε (suc tries) n p low high h = from (passes? X ε n) refl (found X ε t
         differ : passes? X ε n ≡ false → (k : ℕ) → passes? X ε k ≡ true → n ≡ k → ⊥
         differ e k t q = let z : _≡_ {A = ℕ} 0 1 = cc in omega arith
 
+-- how many levels there may be, 0 to 563: q is at most 256
+abbrev pub LEVELS : ℕ
+LEVELS = 564
+
 -- the last n that can be the level
 abbrev pub lastLevel : ℕ → ℕ
 lastLevel X = 2 * mode X + 51
@@ -94,7 +98,7 @@ module _ (X ε : ℕ) (jumps-max : X ≤ 256000000) (tolerance-pos : 1 ≤ ε) w
   pub level-last : level X ε ≤ lastLevel X
   level-last = level-found .within
 
-  pub level-max : level X ε ≤ 563
+  pub level-max : level X ε < LEVELS
   level-max = omega (arith, level-last, mode-low X)
 
   -- the level is not below m

@@ -1,7 +1,7 @@
 -- The moments: their cells, and the last quotient.
 use Prim.Native.Nat.{ℕ, suc, _+_, _*_, _-_, _/_, _%_, _≤_, _<_}
 use native.Mathlib.Omega.{arith}
-use native.Mathlib.Nat.{mul-add-div-right, mul-add-mod-self-right, div-eq-of-lt, mod-eq-of-lt, mul-le-mul-left, mul-le-mul-right}
+use native.Mathlib.Nat.{mul-le-mul, mul-le-mul-left, mul-le-mul-right}
 use mathlib.Core.Path.{_≡_, refl, sym, _∙_, ap, ap₂}
 use mathlib.Core.List.{List}
 use lib.ListN.{getD}
@@ -11,7 +11,7 @@ use Rattle.definitions.specs.Vectors.{ONE}
 use Rattle.definitions.specs.Weights.{mode, weight, weightSum}
 use Rattle.definitions.specs.Moment.{term, weighted, lastQuotient, weightedMean, moment, cellOf, cell, modelLevel, outcome}
 use Rattle.definitions.specs.Rules.{Answer, accepted, refused, rows, judgement}
-use Rattle.laws.specs.Rounding.{quotient-low, quotient-high, quotient-at-most}
+use Rattle.laws.specs.Rounding.{quotient-low, quotient-high, quotient-at-most, quotient-unique, quotient-below, remainder-below, remainder-unique}
 use Rattle.laws.specs.SumLaws.{sum-mono}
 use Rattle.laws.specs.RuleLaws.{accepted-is-no-refusal, other-value}
 use Rattle.laws.specs.ListLaws.{getD-over}
@@ -20,10 +20,21 @@ use Rattle.laws.specs.AverageBound.{LastQuotient}
 
 -- the state and the r of a cell
 cell-state : (R i k : ℕ) → k < R → (i * R + k) / R ≡ i
-cell-state R i k h = mul-add-div-right (omega arith) i k ∙ ap (λ (x : ℕ). i + x) (div-eq-of-lt h) ∙ omega arith
+cell-state R i k h = quotient-unique (i * R + k) R i k h refl
 
 cell-moment : (R i k : ℕ) → k < R → (i * R + k) % R ≡ k
-cell-moment R i k h = mul-add-mod-self-right i R k ∙ mod-eq-of-lt h
+cell-moment R i k h = remainder-unique (i * R + k) R i k h refl
+
+-- those of a cell below M × R are within M and R
+pub row-of-cell : (k R : ℕ) → 1 ≤ R → k % R + 1 ≤ R
+row-of-cell k R low = omega (arith, remainder-below k R low)
+
+pub state-of-cell : (k M R : ℕ) → k < M * R → k / R < M
+state-of-cell k M R h = quotient-below k M R h
+
+-- M × R is at most 512
+pub count-max : (M R : ℕ) → M ≤ 64 → R ≤ 8 → M * R ≤ 512
+count-max M R h l = omega (arith, mul-le-mul h l)
 
 cell-in : (M R i k : ℕ) → i < M → k < R → i * R + k < M * R
 cell-in M R i k h l = omega (arith, mul-le-mul-right R h)

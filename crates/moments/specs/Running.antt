@@ -10,6 +10,7 @@ use Rattle.definitions.specs.Chain.{Chain}
 use Rattle.definitions.specs.Vectors.{ONE, U}
 use Rattle.definitions.specs.Weights.{GREATEST}
 use Rattle.definitions.specs.Moment.{term}
+use Rattle.laws.specs.LevelLaws.{LEVELS}
 use Rattle.vectors.specs.Ready.{Ready}
 
 -- U(n,r) at i in a table of vectors, for the state i and the r of cell k
@@ -45,5 +46,5 @@ pub record Divisible (sums : List ℕ) (S count : ℕ) : Type 0 where
 pub record Summable (z : Sizes) (c f w : List ℕ) (N : ℕ) : Type 0 where
   pub ready : Ready z c f
   pub highest-pos : 1 ≤ z .highest
-  pub level-max : N ≤ 563
+  pub level-max : N < LEVELS
   pub weight-max : (n : ℕ) → n ≤ N → getD w n 0 ≤ GREATEST

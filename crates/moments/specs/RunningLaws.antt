@@ -3,7 +3,7 @@ use mathlib.Core.List.{List}
 use mathlib.Core.Path.{_≡_, sym, _∙_, ap, ap₂}
 use Prim.Native.Nat.{ℕ, _+_, _*_, _/_, _%_, _≤_, _<_}
 use native.Mathlib.Decide.{decLt}
-use native.Mathlib.Nat.{mod-lt, div-lt-iff-lt-mul, mul-le-mul, mul-le-mul-left, le-trans}
+use native.Mathlib.Nat.{mul-le-mul-left, le-trans}
 use native.Mathlib.Numerals.{add-one}
 use native.Mathlib.Omega.{arith}
 use lib.Dec.{ltb}
@@ -21,20 +21,10 @@ use Rattle.laws.specs.SumLaws.{sum-zero, sum-suc, sum-mono, sum-constant}
 use Rattle.laws.specs.ListLaws.{length-firsts, getD-firsts, length-over, getD-over, getD-over-past}
 use Rattle.laws.specs.ArrayLaws.{zeros, length-zeros, zero-at}
 use Rattle.laws.specs.VectorLaws.{Stochastic, U-bound}
+use Rattle.laws.specs.MomentLaws.{row-of-cell, state-of-cell, count-max}
 use Rattle.vectors.specs.Table.{tableOf}
 use Rattle.vectors.specs.TableLaws.{table-entry}
 use Rattle.moments.specs.Running.{inTable, partSum, partSums, Addable, Summable}
-
--- the r and the state of a cell below M × R
-pub row-of-cell : (k R : ℕ) → 1 ≤ R → k % R + 1 ≤ R
-row-of-cell k R low = omega (arith, mod-lt k {m = R} low)
-
-pub state-of-cell : (k M R : ℕ) → 1 ≤ R → k < M * R → k / R < M
-state-of-cell k M R low h = div-lt-iff-lt-mul {k = R} {x = k} {y = M} low .1 h
-
--- M × R is at most 512
-pub count-max : (M R : ℕ) → M ≤ 64 → R ≤ 8 → M * R ≤ 512
-count-max M R h l = omega (arith, mul-le-mul h l)
 
 -- a term is at most its weight
 pub term-max : (w u : ℕ) → u ≤ ONE → term w u ≤ w
@@ -75,7 +65,7 @@ module _ (ch : Chain) (w : List ℕ) (R : ℕ) where
   module _ (states-max : ch .states ≤ 64) (highest-pos : 1 ≤ R) (highest-max : R ≤ 8) where
     in-table : (n k : ℕ) → k < ch .states * R → inTable (tableOf ch R n) R k ≡ U ch n (k % R + 1) (k / R)
     in-table n k l =
-        table-entry ch R n highest-max (k % R + 1) (k / R) (row-of-cell k R highest-pos) states-max (state-of-cell k (ch .states) R highest-pos l)
+        table-entry ch R n highest-max (k % R + 1) (k / R) (row-of-cell k R highest-pos) states-max (state-of-cell k (ch .states) R l)
 
     -- one term more in each sum
     pub sums-next : (n : ℕ) → over (ch .states * R) (λ k. getD (partSums ch w R n) k 0 + term (getD w n 0) (inTable (tableOf ch R n) R k)) (partSums ch w R n) ≡ partSums ch w R (n + 1)
@@ -104,7 +94,7 @@ module _ (ch : Chain) (w : List ℕ) (R : ℕ) where
     unfolding partSum
     part-max n k s h l =
         omega
-        (arith, sum-mono n (λ j. term (getD w j 0) (U ch j (k % R + 1) (k / R))) (λ j. GREATEST) (λ j b. le-trans (term-max (getD w j 0) _ (U-bound ch s j (k % R + 1) (k / R) (state-of-cell k (ch .states) R highest-pos l))) (h j b)), sum-constant n GREATEST)
+        (arith, sum-mono n (λ j. term (getD w j 0) (U ch j (k % R + 1) (k / R))) (λ j. GREATEST) (λ j b. le-trans (term-max (getD w j 0) _ (U-bound ch s j (k % R + 1) (k / R) (state-of-cell k (ch .states) R l))) (h j b)), sum-constant n GREATEST)
 
 -- the same for a function that holds the sums and the table of a chain in arrays
 module _ (z : Sizes) (c f w : List ℕ) (N : ℕ) (g : Summable z c f w N) where
@@ -135,7 +125,7 @@ module _ (z : Sizes) (c f w : List ℕ) (N : ℕ) (g : Summable z c f w N) where
         highest-pos = g .highest-pos;
         highest-max = R-max;
         weight-max = g .weight-max n h;
-        ticks-max = λ k l. rw (in-table ch w R M-max (g .highest-pos) R-max n k l) (U-bound ch (g .ready .stochastic) n (k % R + 1) (k / R) (state-of-cell k (z .states) R (g .highest-pos) l));
+        ticks-max = λ k l. rw (in-table ch w R M-max (g .highest-pos) R-max n k l) (U-bound ch (g .ready .stochastic) n (k % R + 1) (k / R) (state-of-cell k (z .states) R l));
         room = λ k l. room n k h l;
       })
 

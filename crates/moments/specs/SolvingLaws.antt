@@ -17,13 +17,13 @@ use Rattle.laws.specs.ListLaws.{over-same}
 use Rattle.laws.specs.ChainLaws.{SameChain, arrays-same}
 use Rattle.laws.specs.VectorLaws.{U-bound, U-same}
 use Rattle.laws.specs.WeightLaws.{weight-max, weightSum-min, weightSum-max}
-use Rattle.laws.specs.LevelLaws.{level-max, level-mode}
-use Rattle.laws.specs.MomentLaws.{weighted-max}
-use Rattle.laws.specs.Acceptance.{Good, stochastic}
+use Rattle.laws.specs.LevelLaws.{LEVELS, level-max, level-mode}
+use Rattle.laws.specs.MomentLaws.{state-of-cell, count-max, weighted-max}
+use Rattle.laws.specs.Acceptance.{WithinLimits, stochastic}
 use Rattle.poisson.specs.CallerLaws.{weight-at}
 use Rattle.vectors.specs.ModelLaws.{held, model-ready}
 use Rattle.moments.specs.Running.{partSum, partSums, Summable, Divisible}
-use Rattle.moments.specs.RunningLaws.{state-of-cell, count-max, sums-at}
+use Rattle.moments.specs.RunningLaws.{sums-at}
 use Rattle.moments.specs.Solving.{cellMean, Solvable, ReadAs}
 
 -- equal values up to N have equal weighted means
@@ -33,7 +33,7 @@ mean-same X N u v h =
     ap (λ (a : ℕ). lastQuotient a (weightSum X N))
     (sum-same (suc N) (λ n. term (weight X n) (u n)) (λ n. term (weight X n) (v n)) (λ n l. ap (term (weight X n)) (h n (omega arith))))
 
-module _ (z : Sizes) (c f : List ℕ) (X ε : ℕ) (g : Solvable z c f X ε) (w : List ℕ) (ew : w ≡ firsts 564 (weight X)) where
+module _ (z : Sizes) (c f : List ℕ) (X ε : ℕ) (g : Solvable z c f X ε) (w : List ℕ) (ew : w ≡ firsts LEVELS (weight X)) where
   abbrev ch : Chain
   ch = arrays z c f
 
@@ -43,7 +43,7 @@ module _ (z : Sizes) (c f : List ℕ) (X ε : ℕ) (g : Solvable z c f X ε) (w 
   abbrev R : ℕ
   R = z .highest
 
-  short : level X ε ≤ 563
+  short : level X ε < LEVELS
   short = level-max X ε (g .jumps-max) (g .tolerance-pos)
 
   weight-in : (n : ℕ) → n ≤ level X ε → getD w n 0 ≡ weight X n
@@ -70,7 +70,7 @@ module _ (z : Sizes) (c f : List ℕ) (X ε : ℕ) (g : Solvable z c f X ε) (w 
   sum-max : (k : ℕ) → k < M * R → weighted X (λ n. U ch n (k % R + 1) (k / R)) (level X ε) ≤ weightSum X (level X ε)
   sum-max k l =
       weighted-max X (level X ε) (λ n. U ch n (k % R + 1) (k / R))
-      (λ n h. U-bound ch (g .ready .stochastic) n (k % R + 1) (k / R) (state-of-cell k M R (g .highest-pos) l))
+      (λ n h. U-bound ch (g .ready .stochastic) n (k % R + 1) (k / R) (state-of-cell k M R l))
 
   -- any part of the sums may be divided
   pub divisible : (a : List ℕ) (S count : ℕ) → a ≡ partSums ch w R (level X ε + 1) → S ≡ weightSum X (level X ε) → count ≤ M * R → Divisible a S count
@@ -91,7 +91,7 @@ module _ (z : Sizes) (c f : List ℕ) (X ε : ℕ) (g : Solvable z c f X ε) (w 
       (over-same (M * R) (λ k. lastQuotient (getD (partSums ch w R (level X ε + 1)) k 0) (weightSum X (level X ε))) (cellMean ch X R (level X ε)) cells
       (λ k l. ap (λ (v : ℕ). lastQuotient v (weightSum X (level X ε))) (sum-is k l)))
 
-module _ (m : Model) (g : Good m) where
+module _ (m : Model) (g : WithinLimits m) where
   same : SameChain (held m) (chainOf m)
   same = arrays-same m (g .states-max)
 
@@ -112,10 +112,10 @@ module _ (m : Model) (g : Good m) where
   unfolding cellMean cell moment
   means-of-model cells =
       over-same (m .states * m .highest) (cellMean (held m) (jumpMillionths m) (m .highest) (modelLevel m)) (cell m (modelLevel m)) cells
-      (λ k l. mean-same (jumpMillionths m) (modelLevel m) _ _ (λ n h. U-same (held m) (chainOf m) same n (k % m .highest + 1) (k / m .highest) (state-of-cell k (m .states) (m .highest) (g .highest-pos) l)))
+      (λ k l. mean-same (jumpMillionths m) (modelLevel m) _ _ (λ n h. U-same (held m) (chainOf m) same n (k % m .highest + 1) (k / m .highest) (state-of-cell k (m .states) (m .highest) l)))
 
--- what was read of a good model can be solved, and its solution is the model's level and moments
-module _ (m : Model) (g : Good m) (z : Sizes) (c f : List ℕ) (X ε : ℕ) (e : ReadAs m z c f X ε) where
+-- what was read of a model within its limits can be solved, and its solution is the model's level and moments
+module _ (m : Model) (g : WithinLimits m) (z : Sizes) (c f : List ℕ) (X ε : ℕ) (e : ReadAs m z c f X ε) where
   pub solvable-read : Solvable z c f X ε
   solvable-read = rw (e .sizes, e .entries, e .rewards, e .jumps, e .tolerance) (solvable m g)
 

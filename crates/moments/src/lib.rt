@@ -10,7 +10,7 @@ ghost use Rattle.definitions.specs.Weights.{GREATEST};
 ghost use Rattle.definitions.specs.Level.{level};
 ghost use Rattle.definitions.specs.Moment.{term, lastQuotient, modelLevel, outcome, answerOf, cellsAfter};
 ghost use Rattle.definitions.specs.Promise.{Promised};
-ghost use Rattle.laws.specs.Acceptance.{Facts};
+ghost use Rattle.laws.specs.Acceptance.{AcceptedFile};
 ghost use Rattle.laws.specs.ArrayLaws.{zeros};
 ghost use Rattle.moments.specs.Solving.{cellMean, Solvable};
 ghost use Rattle.moments.specs.Running.{inTable, partSums, Addable, Summable, Divisible};
@@ -61,7 +61,7 @@ fn accumulate(
     sizes: Sizes,
     chain: &[u64; 4096],
     rewards: &[u64; 64],
-    weights: &[u64; 564],
+    weights: &[u64; poisson::LEVELS],
     level: u64,
 ) -> [u64; 512]
     requires { ⌜ Summable sizes (now chain) (now rewards) (now weights) level ⌝ }
@@ -112,7 +112,7 @@ fn solve(
 
 // The level and the moments of an accepted file: what it states is read once, row by row.
 fn fill(file: &[u8], cells: &mut [u64]) -> u64
-    requires { ⌜ Facts (now file) (length (now cells)) ⌝ }
+    requires { ⌜ AcceptedFile (now file) (length (now cells)) ⌝ }
     ensures { λ n. ⌜ (n ≡ modelLevel (modelOf (now (file .entry)))) × (now (cells .exit) ≡ cellsAfter (accepted n) (now (file .entry)) (now (cells .entry))) ⌝ }
 {
     let sums = reader::row_sums(file);
@@ -132,7 +132,7 @@ pub fn calculate(file: &[u8], cells: &mut [u64]) -> Outcome
     ensures cells { λ o. ⌜ now (cells .exit) ≡ cellsAfter (answerOf o) (now (file .entry)) (now (cells .entry)) ⌝ }
     ensures promise { λ o. ⌜ Promised (answerOf o) (now (file .entry)) (now (cells .exit)) ⌝ }
 {
-    let judgement = reader::judge(file, cells.len());
+    let judgement = refusals::judge(file, cells.len());
     match judgement {
         Judgement::Refused(k) => Outcome::Refused(k),
         Judgement::Accepted => Outcome::Level(fill(file, cells)),

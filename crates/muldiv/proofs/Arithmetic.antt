@@ -1,14 +1,14 @@
 -- The arithmetic under the proofs of the functions, over plain numbers. Assumes nothing.
 use mathlib.Core.Path.{_≡_, ap}
 use Prim.Native.Nat.{ℕ, _+_, _-_, _*_, _/_, _%_, _^_, _<_, _≤_}
-use native.Mathlib.Nat.{div-add-mod', mul-le-mul-left, mul-le-mul-right, le-of-mul-le-mul-right}
+use native.Mathlib.Nat.{mul-le-mul-left, mul-le-mul-right, le-of-mul-le-mul-right}
 use native.Mathlib.Omega.{arith}
-use Rattle.laws.specs.Rounding.{quotient-low, quotient-high, quotient-unique}
+use Rattle.laws.specs.Rounding.{quotient-low, quotient-high, quotient-unique, quotient-remainder}
 use Rattle.muldiv.specs.MulDiv.{Divides}
 
 -- a × b, by half of b: twice a × (b / 2), with a once more where b is odd
 pub halved : (a b : ℕ) → 2 * (a * (b / 2)) + a * (b % 2) ≡ a * b
-halved a b = omega (arith, ap (λ (n : ℕ). a * n) (div-add-mod' b 2))
+halved a b = omega (arith, ap (λ (n : ℕ). a * n) (quotient-remainder b 2))
 
 pub at-most-once : (a b : ℕ) → a * (b % 2) ≤ a
 at-most-once a b =
@@ -33,4 +33,4 @@ no-room high b low fits pos h =
 pub joined : (a b c q r : ℕ) → Divides (a % c * b) c q r → a * b / c ≡ a / c * b + q
 joined a b c q r d =
     quotient-unique (a * b) c (a / c * b + q) r (d .rest)
-    (omega (arith, ap (λ (n : ℕ). n * b) (div-add-mod' a c)))
+    (omega (arith, ap (λ (n : ℕ). n * b) (quotient-remainder a c)))

@@ -5,14 +5,15 @@ use Prim.Native.Nat.{ℕ, _+_, _-_, _*_, _≤_, _<_}
 use native.Mathlib.Omega.{arith}
 use native.Mathlib.Nat.{le-refl}
 use native.Mathlib.Decide.{decLt}
-use lib.ListN.{getD, set}
+use lib.ListN.{set}
 use borrow.Author.Tests.{lt-ltb, le-ltb}
 use Rattle.definitions.specs.Sums.{firsts, over}
 use Rattle.definitions.specs.Weights.{GREATEST, mode, weight}
-use Rattle.laws.specs.ListLaws.{firsts-same, firsts-store, getD-firsts, getD-over, over-none, over-store, over-further}
+use Rattle.laws.specs.LevelLaws.{LEVELS}
+use Rattle.laws.specs.ListLaws.{firsts-same, firsts-store, over-none, over-store, over-further}
 use Rattle.laws.specs.ArrayLaws.{zeros, length-zeros, zero-at, over-zeros}
 use Rattle.laws.specs.WeightLaws.{weight-gone, weight-mode}
-use Rattle.poisson.specs.Stages.{LEVELS, weightsFrom}
+use Rattle.poisson.specs.Stages.{weightsFrom}
 
 module _ (m X : ℕ) where
   below : (i : ℕ) → i < m → weightsFrom m X i ≡ 0

@@ -10,7 +10,7 @@ use borrow.Author.Tests.{le-leb, lt-leb}
 use Rattle.definitions.specs.Weights.{MILLION, mode, weight}
 use Rattle.definitions.specs.Level.{tailBound, allowance, passes?, level}
 use Rattle.laws.specs.Rounding.{quotient-at-most}
-use Rattle.laws.specs.LevelLaws.{passes-true, true-passes, level-is}
+use Rattle.laws.specs.LevelLaws.{LEVELS, passes-true, true-passes, level-is}
 use Rattle.muldiv.specs.MulDiv.{Scalable}
 use Rattle.muldiv.specs.QuotientLaws.{scalable-by}
 
@@ -43,7 +43,7 @@ module _ (X n a : ℕ) (jumps-max : X ≤ 256000000) (reached : X ≤ n * MILLIO
   tail-max = quotient-at-most (a * X) (a * 256) (n * MILLION + MILLION - X) few
 
   -- and fits
-  pub tail-scalable : n ≤ 563 → a ≤ 2000000000000000 → Scalable a X (n * MILLION + MILLION - X)
+  pub tail-scalable : n < LEVELS → a ≤ 2000000000000000 → Scalable a X (n * MILLION + MILLION - X)
   tail-scalable last small =
       scalable-by a X (n * MILLION + MILLION - X) (a * 256) (omega arith) (omega arith) (omega arith) (omega arith) few (omega arith)
 

@@ -5,8 +5,8 @@ use Prim.Native.Nat.{ℕ, _<_}
 use lib.ListN.{getD}
 use Rattle.definitions.specs.Sums.{firsts}
 use Rattle.definitions.specs.Weights.{weight}
+use Rattle.laws.specs.LevelLaws.{LEVELS}
 use Rattle.laws.specs.ListLaws.{getD-firsts}
-use Rattle.poisson.specs.Stages.{LEVELS}
 
 -- an entry of the array is the weight of its index
 pub weight-at : (X i : ℕ) (w : List ℕ) → w ≡ firsts LEVELS (weight X) → i < LEVELS → getD w i 0 ≡ weight X i

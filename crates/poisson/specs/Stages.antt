@@ -6,10 +6,6 @@ use Rattle.definitions.specs.Sums.{pick}
 use Rattle.definitions.specs.Weights.{weight, weightSum}
 use Rattle.definitions.specs.Level.{level}
 
--- the length of the array: the levels 0 to 563
-abbrev pub LEVELS : ℕ
-LEVELS = 564
-
 -- the weights from the index m on, and 0 below it
 unfoldable pub weightsFrom : ℕ → ℕ → ℕ → ℕ
 weightsFrom m X i = pick (ltb i m) 0 (weight X i)

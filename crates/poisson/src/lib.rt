@@ -8,7 +8,8 @@ ghost use Prim.Native.Nat.{_+_, _-_, _≤_, _<_};
 ghost use Rattle.definitions.specs.Sums.{firsts};
 ghost use Rattle.definitions.specs.Weights.{mode, weight, weightSum};
 ghost use Rattle.definitions.specs.Level.{passes?};
-ghost use Rattle.poisson.specs.Stages.{LEVELS, weightsFrom, Truncated};
+ghost use Rattle.laws.specs.LevelLaws.{LEVELS};
+ghost use Rattle.poisson.specs.Stages.{weightsFrom, Truncated};
 
 // One jump in millionths.
 const MILLION: u64 = 1_000_000;

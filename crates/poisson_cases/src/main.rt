@@ -1,5 +1,6 @@
 // Prints weights and truncation levels, to be compared with what cases.py computes from document 01.
 use libc::STDOUT_FILENO;
+use poisson::LEVELS;
 
 const CASES: usize = 24;
 
@@ -105,11 +106,11 @@ fn show(x: u64, tolerance: u64) {
     last(sum);
 }
 
-// c = 31 * c + w(n) by PRIME, for n rising from 0 to 563.
-fn checksum(w: &[u64; 564]) -> u64 {
+// c = 31 * c + w(n) by PRIME, over all weights, n rising from 0.
+fn checksum(w: &[u64; LEVELS]) -> u64 {
     let mut c: u64 = 0;
     let mut n = 0;
-    while n < 564 {
+    while n < LEVELS {
         c = (31 * c + w[n] % PRIME) % PRIME;
         n += 1;
     }

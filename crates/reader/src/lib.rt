@@ -1,24 +1,19 @@
-// The reader of a model file: what stops it, and the model and the chain that it states.
+// The reader of a model file: the model and the chain that it states.
 //
-// Document 01 counts bytes from 0 and numbers are big-endian. A file is a slice of any length. The
-// functions past the header ask that it is framed (`Framed` in the crate laws): M is 1 to 64, and the
-// file is as long as M says. `judge` and `judge_model` ask nothing, and a file that they accept is framed.
+// Document 01 counts bytes from 0 and numbers are big-endian. The header's fields ask for its 13 bytes;
+// the functions past it ask that the file is framed (`Framed` in the crate laws): M is 1 to 64, and the
+// file is as long as M says. What stops a file is judged in the crate refusals.
 ghost use mathlib.Core.Path.{_≡_};
-ghost use mathlib.Core.Bool.{_||_};
-ghost use mathlib.Core.List.{_++_};
 ghost use Prim.Native.Nat.{max, _+_, _-_, _*_, _≤_, _<_, _^_};
-ghost use lib.Dec.{eqb, ltb};
+ghost use lib.Dec.{eqb};
 ghost use lib.ListN.{length, drop, getD};
 ghost use Rattle.definitions.specs.Sums.{largest, pick};
 ghost use Rattle.definitions.specs.Bytes.{big};
-ghost use Rattle.definitions.specs.File.{stateCount, highestMoment, toleranceField, timeField, rewardsAt, rewardField, rowAt, place};
+ghost use Rattle.definitions.specs.File.{lengthField, version, stateCount, highestMoment, toleranceField, timeField, rewardsAt, rewardField, rowAt, place};
 ghost use Rattle.definitions.specs.Chain.{modelOf, rowSum, uniformRate, maxReward, chainOf, padded, flat, sizesOf};
-ghost use Rattle.definitions.specs.Rules.{framing, quantities, jumps, room, firstHeld, judgedBy, judgement, verdict};
 ghost use Rattle.laws.specs.Acceptance.{Framed};
 ghost use Rattle.laws.specs.ArrayLaws.{zeros, entryOf};
-ghost use Rattle.reader.specs.Rated.{ratedAs};
 ghost use Rattle.reader.specs.Rows.{chainRows, WritesRow};
-use definitions::Judgement;
 use definitions::Sizes;
 
 // 1. Where the file's numbers stand. No offset is written anywhere else.
@@ -35,9 +30,7 @@ const TOLERANCE_AT: usize = 5;
 
 const TIME_AT: usize = 9;
 
-const HEADER: usize = 13;
-
-const REWARDS_AT: usize = HEADER;
+const REWARDS_AT: usize = 13;
 
 // Where f(i), the reward rate of state i, stands.
 fn reward_at(i: usize) -> usize
@@ -77,6 +70,22 @@ fn be(file: &[u8], at: usize, width: usize) -> u64
 }
 
 // 3. The header's fields.
+
+// The length field: the count of all bytes after it.
+pub fn length_field(file: &[u8]) -> u64
+    requires { ⌜ 13 ≤ length (now file) ⌝ }
+    ensures { λ r. ⌜ r ≡ lengthField (now (file .entry)) ⌝ }
+{
+    be(file, LENGTH_AT, 2)
+}
+
+// The version.
+pub fn version(file: &[u8]) -> u64
+    requires { ⌜ 13 ≤ length (now file) ⌝ }
+    ensures { λ r. ⌜ r ≡ version (now (file .entry)) ⌝ }
+{
+    byte(file, VERSION_AT)
+}
 
 // M, the number of states.
 pub fn state_count(file: &[u8]) -> usize
@@ -144,12 +153,13 @@ fn largest_of(values: &[u64; 64], count: usize) -> u64
 }
 
 // F, the largest reward rate.
-fn max_reward(file: &[u8]) -> u64
+pub fn max_reward(file: &[u8]) -> u64
     requires { ⌜ Framed (now file) ⌝ }
     ensures { λ r. ⌜ r ≡ maxReward (modelOf (now (file .entry))) ⌝ }
 {
     let rewards = rewards_of(file);
-    largest_of(&rewards, state_count(file))
+    let states = state_count(file);
+    largest_of(&rewards, states)
 }
 
 // 5. The rows of rates.
@@ -205,7 +215,7 @@ pub fn row_sums(file: &[u8]) -> [u64; 64]
 }
 
 // E, the uniformization rate: the largest row sum, or 1 where all row sums are 0.
-fn uniform_rate(file: &[u8], sums: &[u64; 64]) -> u64
+pub fn uniform_rate(file: &[u8], sums: &[u64; 64]) -> u64
     requires { ⌜ Framed (now file) ⌝ }
     requires { ⌜ now sums ≡ padded (stateCount (now file)) (rowSum (modelOf (now file))) ⌝ }
     ensures { λ r. ⌜ r ≡ uniformRate (modelOf (now (file .entry))) ⌝ }
@@ -219,11 +229,15 @@ pub fn sizes_of(file: &[u8], sums: &[u64; 64]) -> Sizes
     requires { ⌜ now sums ≡ padded (stateCount (now file)) (rowSum (modelOf (now file))) ⌝ }
     ensures { λ r. ⌜ r ≡ sizesOf (modelOf (now (file .entry))) ⌝ }
 {
+    let states = state_count(file);
+    let highest = highest_moment(file);
+    let rate = uniform_rate(file, sums);
+    let largest = max_reward(file);
     Sizes {
-        states: state_count(file),
-        highest: highest_moment(file),
-        rate: uniform_rate(file, sums),
-        largest: max_reward(file),
+        states,
+        highest,
+        rate,
+        largest,
     }
 }
 
@@ -268,129 +282,4 @@ pub fn chain_of(file: &[u8], sums: &[u64; 64], rate: u64) -> [u64; 4096]
         write_row(file, i, rate - sums[i], &mut chain);
     }
     chain
-}
-
-// 7. What stops a file: the table's rows in its order, and the largest number that each lets pass.
-
-const MOST_STATES: u64 = 64;
-
-const MOST_MOMENTS: u64 = 8;
-
-const MOST_TOLERANCE: u64 = 100_000_000;
-
-const MOST_REWARD: u64 = 1_000_000;
-
-const MOST_ROW_SUM: u64 = 10_000_000;
-
-const MOST_JUMPS: u64 = 256_000_000;
-
-fn outside(x: u64, most: u64) -> bool
-    ensures { λ r. ⌜ r ≡ (eqb x 0 || ltb most x) ⌝ }
-{
-    x == 0 || x > most
-}
-
-// Rows 1 to 6: the framing.
-fn judge_framing(file: &[u8]) -> Judgement
-    ensures { λ r. ⌜ verdict r ≡ judgedBy (framing (now (file .entry))) ⌝ }
-{
-    if file.len() < HEADER {
-        return Judgement::Refused(1);
-    }
-    let length = be(file, LENGTH_AT, 2);
-    if length != (file.len() - 2) as u64 {
-        return Judgement::Refused(2);
-    }
-    if byte(file, VERSION_AT) != 1 {
-        return Judgement::Refused(3);
-    }
-    let states = state_count(file) as u64;
-    if outside(states, MOST_STATES) {
-        return Judgement::Refused(4);
-    }
-    if outside(highest_moment(file) as u64, MOST_MOMENTS) {
-        return Judgement::Refused(5);
-    }
-    if length != 4 * states * states + 11 {
-        return Judgement::Refused(6);
-    }
-    Judgement::Accepted
-}
-
-// What the rows say that every call which reads a file shares: E, the uniformization rate, or the
-// number of the first row that holds.
-pub enum Rated {
-    Rate(u64),
-    Refused(u8),
-}
-
-// Rows 7 to 11: the quantities. Some row sum is above its limit just where E is.
-fn judge_quantities(file: &[u8]) -> Rated
-    requires { ⌜ Framed (now file) ⌝ }
-    ensures { λ r. ⌜ ratedAs r ≡ firstHeld (quantities (now (file .entry))) (uniformRate (modelOf (now (file .entry)))) ⌝ }
-{
-    if outside(tolerance(file), MOST_TOLERANCE) {
-        return Rated::Refused(7);
-    }
-    if time(file) == 0 {
-        return Rated::Refused(8);
-    }
-    let most = max_reward(file);
-    if most > MOST_REWARD {
-        return Rated::Refused(9);
-    }
-    if most == 0 {
-        return Rated::Refused(10);
-    }
-    let sums = row_sums(file);
-    let rate = uniform_rate(file, &sums);
-    if rate > MOST_ROW_SUM {
-        return Rated::Refused(11);
-    }
-    Rated::Rate(rate)
-}
-
-// Rows 1 to 11.
-pub fn judge_model(file: &[u8]) -> Rated
-    ensures { λ r. ⌜ ratedAs r ≡ firstHeld (framing (now (file .entry)) ++ quantities (now (file .entry))) (uniformRate (modelOf (now (file .entry)))) ⌝ }
-{
-    let framing = judge_framing(file);
-    match framing {
-        Judgement::Refused(k) => Rated::Refused(k),
-        Judgement::Accepted => judge_quantities(file),
-    }
-}
-
-// Row 12, for one time: E × T is above its limit.
-pub fn too_many_jumps(rate: u64, time: u64) -> bool
-    requires { ⌜ (rate < 2 ^ 32) × (time < 2 ^ 32) ⌝ }
-    ensures { λ r. ⌜ r ≡ ltb 256000000 (rate * time) ⌝ }
-{
-    jump_millionths(rate, time) > MOST_JUMPS
-}
-
-// The number of the first row that holds, for a file lent with so many answer cells; accepted where
-// none does.
-pub fn judge(file: &[u8], cells: usize) -> Judgement
-    ensures { λ r. ⌜ verdict r ≡ judgement (now (file .entry)) cells ⌝ }
-{
-    let model = judge_model(file);
-    match model {
-        Rated::Refused(k) => Judgement::Refused(k),
-        Rated::Rate(rate) => judge_run(file, rate, cells),
-    }
-}
-
-// Rows 12 and 13, for the file's time: the jumps, and the room for the moments.
-fn judge_run(file: &[u8], rate: u64, cells: usize) -> Judgement
-    requires { ⌜ Framed (now file) × (rate < 2 ^ 32) ⌝ }
-    ensures { λ r. ⌜ verdict r ≡ judgedBy (jumps rate (timeField (now (file .entry))) ++ room (stateCount (now (file .entry)) * highestMoment (now (file .entry))) cells) ⌝ }
-{
-    if too_many_jumps(rate, time(file)) {
-        return Judgement::Refused(12);
-    }
-    if cells < state_count(file) * highest_moment(file) {
-        return Judgement::Refused(13);
-    }
-    Judgement::Accepted
 }

@@ -1,23 +1,34 @@
 -- Digits, and how long the texts of the sheet are. Assumes nothing.
-use mathlib.Core.Path.{_≡_}
+use mathlib.Core.Path.{_≡_, refl, ap, _∙_}
 use mathlib.Core.Bool.{Bool, true, false}
 use mathlib.Core.List.{List, [], _∷_, _++_, append-assoc}
-use Prim.Native.Nat.{ℕ, zero, suc, _+_, _*_, _/_, _%_, _^_, _≤_, _<_}
-use native.Mathlib.Nat.{pow-suc, pow-succ', pow-le-pow-right, div-one, div-div-eq-div-mul, div-lt-iff-lt-mul, mod-lt, mul-le-mul, mul-le-mul-right}
+use Prim.Native.Nat.{ℕ, zero, suc, _+_, _-_, _*_, _/_, _%_, _^_, _≤_, _<_}
+use native.Mathlib.Nat.{pow-le-pow-right, one-le-pow, mul-le-mul-right}
 use native.Mathlib.Decide.{decLe}
 use native.Mathlib.Omega.{arith}
 use lib.Dec.{ltb}
-use lib.ListN.{getD}
+use lib.ListN.{length, getD}
 use borrow.Author.Tests.{lt-ltb, le-ltb}
 use Rattle.definitions.specs.Sums.{pick}
 use Rattle.definitions.specs.Sheet.{digit, digits, places, momentLine}
+use Rattle.laws.specs.MomentLaws.{row-of-cell, state-of-cell, count-max}
 use Rattle.sheet.specs.Printed.{line, lineWidth, Shape}
 
--- the last p + 1 digits: the last p of x / 10, and the last of x
-pub digits-more : (x p : ℕ) → digits x (suc p) ≡ digits (x / 10) p ++ (48 + x % 10) ∷ []
-unfolding digits digit
-digits-more x zero = rw div-one
-digits-more x (suc p) = rw (digits-more x p, div-div-eq-div-mul x 10 (10 ^ p), ← pow-succ' 10 p)
+pub power-positive : (p : ℕ) → 0 < 10 ^ p
+power-positive p = one-le-pow p 10 (omega arith)
+
+pub length-digits : (x p : ℕ) → length (digits x p) ≡ p
+unfolding digits
+length-digits x zero = refl
+length-digits x (suc p) = ap suc (length-digits x p)
+
+-- the highest of p digits, and the others
+pub next-digit : (x p : ℕ) → 0 < p → digit x (p - 1) ∷ digits x (p - 1) ≡ digits x p
+unfolding digits
+next-digit x zero pos = absurd (omega arith)
+next-digit x (suc q) pos =
+    let e : suc q - 1 ≡ q = omega arith in
+    rw e
 
 -- where x has at most j + 1 digits, to look for more finds the same
 places-same : (x j k : ℕ) → j ≤ k → x < 10 ^ suc j → places x k ≡ places x j
@@ -31,25 +42,14 @@ places-same x j (suc k) h high =
       | no n ↦ let e : j ≡ suc k = omega arith in rw e
     ]
 
--- x has one digit more than x / 10, where that is not 0
-places-tenth : (x k : ℕ) → 10 ≤ x → places x (suc k) ≡ suc (places (x / 10) k)
+-- x has p digits where it is below 10^p, and not below 10^(p − 1) unless p is 1
+pub places-found : (x p : ℕ) → 0 < p → p ≤ 20 → x < 10 ^ p → (1 < p → 10 ^ (p - 1) ≤ x) → places x 19 ≡ p
 unfolding places
-places-tenth x zero h = rw (le-ltb x (10 ^ suc zero) h)
-places-tenth x (suc k) h =
-    elim (decLe (10 ^ suc (suc k)) x) [
-      | yes l ↦ rw (le-ltb x (10 ^ suc (suc k)) l, le-ltb (x / 10) (10 ^ suc k) (omega (arith, pow-suc 10 (suc k))))
-      | no n ↦
-          let below : x < 10 ^ suc (suc k) = omega arith in
-          rw (lt-ltb x (10 ^ suc (suc k)) below, lt-ltb (x / 10) (10 ^ suc k) (omega (arith, pow-suc 10 (suc k)))) (places-tenth x k h)
-    ]
-
--- the digits of a 64-bit number: one below 10, and else one more than its tenth has
-pub places-one : (x : ℕ) → x < 10 → places x 19 ≡ 1
-unfolding places
-places-one x h = places-same x 0 19 (omega arith) h
-
-pub places-more : (x : ℕ) → 10 ≤ x → x < 10 ^ 20 → places x 19 ≡ suc (places (x / 10) 19)
-places-more x h high = omega (arith, places-tenth x 18 h, places-same (x / 10) 18 19 (omega arith) (omega arith))
+places-found x zero pos most high low = absurd (omega arith)
+places-found x (suc zero) pos most high low = places-same x 0 19 (omega arith) high
+places-found x (suc (suc q)) pos most high low =
+    let e : suc (suc q) - 1 ≡ suc q = omega arith in
+    places-same x (suc q) 19 (omega arith) high ∙ rw (le-ltb x (10 ^ suc q) (rw e at (low (omega arith))))
 
 picked : (t : Bool) {a b m : ℕ} → a ≤ m → b ≤ m → pick t a b ≤ m
 picked true p q = p
@@ -67,7 +67,7 @@ places-short x j h high = omega (arith, places-same x j 19 h high, places-limit 
 
 -- at most 512 moments
 pub area : {M R : ℕ} {cells : List ℕ} → Shape M R cells → M * R ≤ 512
-area h = mul-le-mul (h .states) (h .highest)
+area {M} {R} h = count-max M R (h .states) (h .highest)
 
 -- the line of cell k: its state and r, counted from 0, have two digits and one, and it has at most 20 bytes
 pub record Narrow (R k : ℕ) : Type 0 where
@@ -77,11 +77,10 @@ pub record Narrow (R k : ℕ) : Type 0 where
   pub width : lineWidth (k / R + 1) (k % R + 1) ≤ 20
 
 pub narrow : {M R : ℕ} {cells : List ℕ} (k : ℕ) → Shape M R cells → k < M * R → Narrow R k
-narrow {R = R} k h l =
-    let few : k < 64 * R = omega (arith, mul-le-mul-right R (h .states)) in
-    let pos : 0 < R = omega arith in
-    let s : k / R < 64 = div-lt-iff-lt-mul pos .1 few in
-    let m : k % R < 8 = omega (arith, mod-lt k pos) in
+narrow {M} {R} k h l =
+    let pos : 0 < R = omega (arith, mul-le-mul-right R (h .states)) in
+    let s : k / R < 64 = omega (arith, state-of-cell k M R l, h .states) in
+    let m : k % R < 8 = omega (arith, row-of-cell k R pos, h .highest) in
     record {
       some = pos;
       state = s;

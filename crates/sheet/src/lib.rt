@@ -2,25 +2,57 @@
 //
 // Each writer below stores its text from `at` on, or from the buffer's start, and returns the place
 // after it. Its contract names the text and how long it may be, and says that no other byte changes.
-use definitions::ONE;
 use definitions::Outcome;
 ghost use mathlib.Core.Path.{_≡_};
 ghost use mathlib.Core.List.{[], _∷_, _++_};
-ghost use Prim.Native.Nat.{_+_, _*_, _%_, _<_, _≤_};
+ghost use Prim.Native.Nat.{_+_, _*_, _^_, _<_, _≤_};
 ghost use lib.ListN.{length};
 ghost use Rattle.definitions.specs.Moment.{answerOf};
-ghost use Rattle.definitions.specs.Sheet.{digits, places, decimal, figure, momentLines, wordLine, sheetOf};
+ghost use Rattle.definitions.specs.Sheet.{digit, digits, places, decimal, figure, momentLines, wordLine, sheetOf};
 ghost use Rattle.sheet.specs.Puts.{Puts};
 ghost use Rattle.sheet.specs.Printed.{line, lineWidth, Shape, Printable, Printed};
 
 // The bytes of a buffer that has room for every sheet.
 pub const ROOM: usize = 16384;
 
-// The byte of the last decimal digit of x.
-fn last_digit(x: u64) -> u8
-    ensures { λ r. ⌜ r ≡ 48 + x % 10 ⌝ }
+// The powers of ten that 64 bits hold. Each decimal is taken from this table.
+const POWERS: [u64; 20] = [
+    1,
+    10,
+    100,
+    1_000,
+    10_000,
+    100_000,
+    1_000_000,
+    10_000_000,
+    100_000_000,
+    1_000_000_000,
+    10_000_000_000,
+    100_000_000_000,
+    1_000_000_000_000,
+    10_000_000_000_000,
+    100_000_000_000_000,
+    1_000_000_000_000_000,
+    10_000_000_000_000_000,
+    100_000_000_000_000_000,
+    1_000_000_000_000_000_000,
+    10_000_000_000_000_000_000,
+];
+
+// 10 to the p.
+fn power(p: usize) -> u64
+    requires { ⌜ p < 20 ⌝ }
+    ensures { λ r. ⌜ r ≡ 10 ^ p ⌝ }
 {
-    b'0' + (x % 10) as u8
+    POWERS[p]
+}
+
+// The byte of the decimal digit of x that counts 10 to the p.
+fn digit_at(x: u64, p: usize) -> u8
+    requires { ⌜ p < 20 ⌝ }
+    ensures { λ r. ⌜ r ≡ digit x p ⌝ }
+{
+    b'0' + (x / power(p) % 10) as u8
 }
 
 // One byte.
@@ -46,26 +78,29 @@ fn put_word(out: &mut [u8], at: usize, word: &[u8]) -> usize
     to
 }
 
-// The last p decimal digits of x.
+// The last p decimal digits of x, the highest first.
 fn put_digits(out: &mut [u8], at: usize, x: u64, p: usize) -> usize
-    requires { ⌜ at + p ≤ length (now out) ⌝ }
+    requires { ⌜ (p ≤ 20) × (at + p ≤ length (now out)) ⌝ }
     ensures { λ r. ⌜ Puts (digits x p) p at (now (out .entry)) (now (out .exit)) r ⌝ }
 {
-    if p == 0 {
-        return at;
+    let mut to = at;
+    let mut left = p;
+    while left > 0 {
+        left -= 1;
+        to = put(out, to, digit_at(x, left));
     }
-    let to = put_digits(out, at, x / 10, p - 1);
-    put(out, to, last_digit(x))
+    to
 }
 
-// How many digits x has in decimal.
+// How many digits x has in decimal: at most 20.
 fn places_of(x: u64) -> usize
     ensures { λ r. ⌜ r ≡ places x 19 ⌝ }
 {
-    let mut rest = x;
     let mut p = 1;
-    while rest >= 10 {
-        rest /= 10;
+    while p < 20 {
+        if x < power(p) {
+            return p;
+        }
         p += 1;
     }
     p
@@ -85,7 +120,7 @@ fn put_figure(out: &mut [u8], at: usize, x: u64) -> usize
     requires { ⌜ at + 14 ≤ length (now out) ⌝ }
     ensures { λ r. ⌜ Puts (figure x) 14 at (now (out .entry)) (now (out .exit)) r ⌝ }
 {
-    let point = put(out, at, last_digit(x / ONE));
+    let point = put(out, at, digit_at(x, 12));
     let decimals = put(out, point, b'.');
     put_digits(out, decimals, x, 12)
 }

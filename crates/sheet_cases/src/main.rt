@@ -1,12 +1,13 @@
 // Writes the sheets that cases.py makes, one after the other.
 use definitions::Outcome;
 use libc::STDOUT_FILENO;
+ghost use Rattle.definitions.specs.Moment.{answerOf};
 ghost use Rattle.sheet.specs.Printed.{Printable};
 
 fn show(outcome: Outcome, states: usize, highest: usize, cells: &[u64])
-    requires { ⌜ Printable outcome states highest (now cells) ⌝ }
+    requires { ⌜ Printable (answerOf outcome) states highest (now cells) ⌝ }
 {
-    let mut out = [b'#'; 16384];
+    let mut out = [b'#'; sheet::ROOM];
     let n = sheet::write_sheet(outcome, states, highest, cells, &mut out);
     io::write_all(STDOUT_FILENO, &out[..n]);
 }

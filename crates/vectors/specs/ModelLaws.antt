@@ -7,7 +7,7 @@ use Rattle.definitions.specs.Chain.{Model, Chain, chainOf, padded, flat, arrays
 use Rattle.laws.specs.SumLaws.{sum-same}
 use Rattle.laws.specs.ChainLaws.{SameChain, arrays-same}
 use Rattle.laws.specs.VectorLaws.{Stochastic}
-use Rattle.laws.specs.Acceptance.{Good, stochastic}
+use Rattle.laws.specs.Acceptance.{WithinLimits, stochastic}
 use Rattle.vectors.specs.Ready.{Ready}
 
 -- a chain that agrees with one in range is in range
@@ -25,18 +25,18 @@ stochastic-same a b e s =
 abbrev pub held : Model → Chain
 held m = arrays (sizesOf m) (flat (chainOf m)) (padded (m .states) (m .reward))
 
-pub model-ready : (m : Model) → Good m → Ready (sizesOf m) (flat (chainOf m)) (padded (m .states) (m .reward))
-model-ready m good =
-    let range : Stochastic (held m) = stochastic-same (held m) (chainOf m) (arrays-same m (good .states-max)) (stochastic m) in
+pub model-ready : (m : Model) → WithinLimits m → Ready (sizesOf m) (flat (chainOf m)) (padded (m .states) (m .reward))
+model-ready m limits =
+    let range : Stochastic (held m) = stochastic-same (held m) (chainOf m) (arrays-same m (limits .states-max)) (stochastic m) in
     record {
       rewards = record {
-        states-max = good .states-max;
-        highest-max = good .highest-max;
-        largest-pos = good .rewards-pos;
-        largest-max = good .rewards-max;
+        states-max = limits .states-max;
+        highest-max = limits .highest-max;
+        largest-pos = limits .rewards-pos;
+        largest-max = limits .rewards-max;
         reward = range .reward;
       };
-      rate-pos = good .rate-min;
-      rate-max = good .rate-max;
+      rate-pos = limits .rate-min;
+      rate-max = limits .rate-max;
       stochastic = range;
     }

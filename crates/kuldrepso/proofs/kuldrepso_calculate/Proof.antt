@@ -1,68 +1,40 @@
--- The call's outcome is the definition's, so what the call ensures of it holds of the definition's; each arm returns its number.
+-- Each arm returns the plain number of the outcome; the cells and the promise are those of the call.
 use Prim.Native.Nat.{ℕ}
-use mathlib.Core.Path.{_≡_, ap}
-use mathlib.Core.List.{List}
+use mathlib.Core.Path.{ap}
 use native.Mathlib.Omega.{arith}
-use lib.ListN.{length}
-use Rattle.definitions.specs.declared.Outcome.{Outcome}
-use Rattle.definitions.specs.Moment.{accepts, cellsAfter, numberOf, outcome}
-use Rattle.definitions.specs.Promise.{Promised}
-use Rattle.kuldrepso.specs.Plain.{plainAnswer}
 use borrow.Author.Needs.{needs}
+use Rattle.definitions.specs.declared.Outcome.{Outcome}
+use Rattle.definitions.specs.Moment.{answerOf}
+use Rattle.kuldrepso.specs.Plain.{plainAnswer}
 use Rattle.kuldrepso.proofs.kuldrepso_calculate.Statement.{statement}
 use Rattle.kuldrepso.proofs.kuldrepso_calculate.Tie as tie
 
--- what holds of the outcome o that the call returned holds of the definition's
-of-outcome : (s before after : List ℕ) (o : Outcome) → o ≡ outcome s (length before) → after ≡ cellsAfter o s before → Promised o s after → (after ≡ cellsAfter (outcome s (length before)) s before) × Promised (outcome s (length before)) s after
-of-outcome s before after o e cells promise = rw (← e) (cells, promise)
-
-calculate-requires : tie.Need-calculate-requires
-calculate-requires c κs = search needs
-
-enum-known-outcome : tie.Need-enum-known-outcome
-enum-known-outcome c = search needs
-
-enum-known-outcome-2 : tie.Need-enum-known-outcome-2
-enum-known-outcome-2 c = search needs
-
-cast-result : tie.Need-cast-result
-cast-result c = search needs
-
-add-result : tie.Need-add-result
-add-result c = search needs
-
-same-length : tie.Need-same-length
-same-length c = search needs
+-- the plain number of an outcome
+abbrev plain : Outcome → ℕ
+plain o = plainAnswer (answerOf o)
 
 returns : tie.Need-returns
-unfolding plainAnswer accepts numberOf
+unfolding plainAnswer
 returns c =
     let called = c .before .before .before .before .before .calculate .ensures in
-    let level = ap plainAnswer (c .before .outcome .given .1) in
-    let told = ap plainAnswer (called .0) in
-    (omega (arith, level, told), of-outcome _ _ _ _ (called .0) (called .1 .0) (called .1 .1))
-
-same-length-2 : tie.Need-same-length-2
-same-length-2 c = search needs
+    (omega (arith, ap plain (c .before .level .given .1), ap plainAnswer (called .0)), rw (called .0) at (called .1))
 
 returns-2 : tie.Need-returns-2
-unfolding plainAnswer accepts numberOf
+unfolding plainAnswer
 returns-2 c =
     let called = c .before .before .before .before .before .calculate .ensures in
-    let rule = ap plainAnswer (c .before .outcome2 .given .1) in
-    let told = ap plainAnswer (called .0) in
-    (omega (arith, rule, told), of-outcome _ _ _ _ (called .0) (called .1 .0) (called .1 .1))
+    (omega (arith, ap plain (c .before .row .given .1), ap plainAnswer (called .0)), rw (called .0) at (called .1))
 
 pub kuldrepso-calculate-spec : {M : Type 1} → statement M
 kuldrepso-calculate-spec =
     tie.close
     (tie.spec
-    calculate-requires
-    enum-known-outcome
-    enum-known-outcome-2
-    cast-result
-    add-result
-    same-length
+    (λ c κs. search needs)
+    (λ c. search needs)
+    (λ c. search needs)
+    (λ c. search needs)
+    (λ c. search needs)
+    (λ c. search needs)
     returns
-    same-length-2
+    (λ c. search needs)
     returns-2)

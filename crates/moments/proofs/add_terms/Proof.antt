@@ -7,8 +7,8 @@ use lib.ListN.{getD}
 use Rattle.definitions.specs.Sums.{over}
 use Rattle.definitions.specs.Moment.{term}
 use Rattle.laws.specs.ListLaws.{over-none, over-store, getD-over-past}
+use Rattle.laws.specs.MomentLaws.{row-of-cell, state-of-cell, count-max}
 use Rattle.moments.specs.Running.{inTable}
-use Rattle.moments.specs.RunningLaws.{row-of-cell, state-of-cell, count-max}
 use Rattle.moments.proofs.add_terms.Statement.{statement}
 use Rattle.moments.proofs.add_terms.Tie as tie
 
@@ -28,7 +28,7 @@ in-table c =
     let start = c .before .before .before in
     let k = c .before .loop .k in
     let R = start .args .sizes .highest in
-    (omega (arith, row-of-cell k R (start .pre .highest-pos), start .pre .highest-max), omega (arith, state-of-cell k (start .args .sizes .states) R (start .pre .highest-pos) (c .loop-test .taken), start .pre .states-max))
+    (omega (arith, row-of-cell k R (start .pre .highest-pos), start .pre .highest-max), omega (arith, state-of-cell k (start .args .sizes .states) R (c .loop-test .taken), start .pre .states-max))
 
 one-term-requires : tie.Need-one-term-requires Inv-loop μ-loop
 one-term-requires c κs =

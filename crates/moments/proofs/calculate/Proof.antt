@@ -3,7 +3,7 @@ use mathlib.Core.Path.{_≡_, refl, sym, _∙_, ap}
 use lib.ListN.{length}
 use Rattle.definitions.specs.Rules.{accepted, judgement, verdict}
 use Rattle.definitions.specs.Moment.{cellsAfter}
-use Rattle.laws.specs.Acceptance.{facts}
+use Rattle.laws.specs.Acceptance.{accepted-file}
 use Rattle.laws.specs.MomentLaws.{outcome-refused, outcome-accepted}
 use Rattle.laws.specs.Demand3.{demand3}
 use borrow.Author.Needs.{needs}
@@ -11,7 +11,7 @@ use Rattle.moments.proofs.calculate.Statement.{statement}
 use Rattle.moments.proofs.calculate.Tie as tie
 
 fill-requires : tie.Need-fill-requires
-fill-requires c κs = facts _ _ (sym (c .before .before .before .judge .ensures) ∙ ap verdict (c .before .enum-told .given .1))
+fill-requires c κs = accepted-file _ _ (sym (c .before .before .before .judge .ensures) ∙ ap verdict (c .before .enum-told .given .1))
 
 returns : tie.Need-returns
 unfolding cellsAfter

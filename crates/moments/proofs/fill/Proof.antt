@@ -20,7 +20,7 @@ chain-of-requires c κs = (c .before .before .before .before .before .before .pr
 
 jump-millionths-requires : tie.Need-jump-millionths-requires
 jump-millionths-requires c κs =
-    (omega (arith, rate-read (c .before .before .before .before), c .before .before .before .before .before .before .before .before .before .pre .good .rate-max), c .time .ensures .1)
+    (omega (arith, rate-read (c .before .before .before .before), c .before .before .before .before .before .before .before .before .before .pre .limits .rate-max), c .time .ensures .1)
 
 -- what was read is the file's model
 read : (d : tie.After-tolerance) → ReadAs (modelOf (d .before .before .before .before .before .before .before .before .before .before .before .args .file .now)) (d .before .before .before .before .before .before .sizes-of .result) (d .before .before .before .before .chain-of .result) (d .before .before .before .rewards-of .result) (d .before .jump-millionths .result) (d .tolerance .result)
@@ -38,7 +38,7 @@ solve-requires : tie.Need-solve-requires
 solve-requires c κs =
     let start = c .before .before .before .before .before .before .before .before .before .before .before .before .before .before in
     let given = read (c .before .before .before) in
-    (solvable-read (modelOf (start .args .file .now)) (start .pre .good) _ _ _ _ _ given, rw (given .sizes) (start .pre .room))
+    (solvable-read (modelOf (start .args .file .now)) (start .pre .limits) _ _ _ _ _ given, rw (given .sizes) (start .pre .room))
 
 returns : tie.Need-returns
 unfolding cellsAfter
@@ -46,8 +46,8 @@ returns c =
     let start = c .before .before .before .before .before .before .before .before .before .before .before .before .before .before .before .before .before in
     let m = modelOf (start .args .file .now) in
     let given = read (c .before .before .before .before .before .before) in
-    let n = c .before .before .solve .ensures .0 ∙ level-read m (start .pre .good) _ _ _ _ _ given in
-    (n, rw n (c .before .before .solve .ensures .1 ∙ cells-read m (start .pre .good) _ _ _ _ _ given _))
+    let n = c .before .before .solve .ensures .0 ∙ level-read m (start .pre .limits) _ _ _ _ _ given in
+    (n, rw n (c .before .before .solve .ensures .1 ∙ cells-read m (start .pre .limits) _ _ _ _ _ given _))
 
 pub fill-spec : {M : Type 1} → statement M
 fill-spec =

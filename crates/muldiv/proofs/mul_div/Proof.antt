@@ -2,9 +2,9 @@
 use mathlib.Core.Path.{sym, ap, _∙_}
 use mathlib.Core.Logic.{⊎-elim}
 use native.Mathlib.Omega.{arith}
-use native.Mathlib.Nat.{mod-lt}
 use borrow.Author.Needs.{needs}
 use borrow.Author.Tests.{leb-true, leb-false}
+use Rattle.laws.specs.Rounding.{remainder-below}
 use Rattle.muldiv.specs.MulDiv.{fitted}
 use Rattle.muldiv.specs.QuotientLaws.{zero-divisor, large-a, large-b, large-c, in-range}
 use Rattle.muldiv.proofs.Arithmetic.{joined}
@@ -31,7 +31,7 @@ rem-multiplied c = search needs
 multiplied-requires : tie.Need-multiplied-requires
 multiplied-requires c κs =
     let args = c .before .before .before .before .args in
-    omega (arith, leb-false, mod-lt (args .a) {m = args .c} (omega arith))
+    omega (arith, leb-false, remainder-below (args .a) (args .c) (omega arith))
 
 div-total : tie.Need-div-total
 div-total c = search needs

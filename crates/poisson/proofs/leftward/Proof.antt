@@ -8,9 +8,10 @@ use native.Mathlib.Nat.{le-refl}
 use lib.ListN.{getD}
 use Rattle.definitions.specs.Sums.{firsts}
 use Rattle.definitions.specs.Weights.{mode}
+use Rattle.laws.specs.LevelLaws.{LEVELS}
 use Rattle.laws.specs.ListLaws.{getD-firsts}
 use Rattle.laws.specs.WeightLaws.{mode-low}
-use Rattle.poisson.specs.Stages.{LEVELS, weightsFrom}
+use Rattle.poisson.specs.Stages.{weightsFrom}
 use Rattle.poisson.proofs.Filling.{above, one-left, all-weights}
 use Rattle.poisson.proofs.leftward.Statement.{statement}
 use Rattle.poisson.proofs.leftward.Tie as tie

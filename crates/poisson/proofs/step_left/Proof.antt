@@ -15,9 +15,6 @@ weight-before X n pos low =
     let here : n - 1 + 1 ≡ n = omega arith in
     weight-left X (n - 1) (omega arith) ∙ rw (here, mul-assoc)
 
-mul-scaled : tie.Need-mul-scaled
-mul-scaled c = omega (arith, mode-low (c .args .x))
-
 scaled-requires : tie.Need-scaled-requires
 scaled-requires c κs =
     let args = c .args in
@@ -27,7 +24,7 @@ returns : tie.Need-returns
 returns c =
     let args = c .before .args in
     let given : args .w ≡ weight (args .x) (args .n) = c .before .pre .0 in
-    c .scaled .ensures ∙ ap (λ (w : ℕ). w * (args .n * 1000000) / args .x) given ∙ sym (weight-before (args .x) (args .n) (omega arith) (omega arith))
+    c .scaled .ensures ∙ ap (λ (w : ℕ). w * (args .n * MILLION) / args .x) given ∙ sym (weight-before (args .x) (args .n) (omega arith) (omega arith))
 
 pub step-left-spec : {M : Type 1} → statement M
-step-left-spec = tie.close (tie.spec mul-scaled scaled-requires returns)
+step-left-spec = tie.close (tie.spec (λ c. omega (arith, mode-low (c .args .x))) scaled-requires returns)

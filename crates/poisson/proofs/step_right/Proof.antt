@@ -3,17 +3,11 @@ use mathlib.Core.Path.{_≡_, sym, ap, _∙_}
 use Prim.Native.Nat.{ℕ, _+_, _*_, _/_}
 use native.Mathlib.Omega.{arith}
 use borrow.Author.Needs.{needs}
-use Rattle.definitions.specs.Weights.{weight}
+use Rattle.definitions.specs.Weights.{MILLION, weight}
 use Rattle.laws.specs.WeightLaws.{mode-high, weight-max, weight-right}
 use Rattle.muldiv.specs.QuotientLaws.{scalable-part}
 use Rattle.poisson.proofs.step_right.Statement.{statement}
 use Rattle.poisson.proofs.step_right.Tie as tie
-
-add-scaled : tie.Need-add-scaled
-add-scaled c = search needs
-
-mul-scaled : tie.Need-mul-scaled
-mul-scaled c = search needs
 
 scaled-requires : tie.Need-scaled-requires
 scaled-requires c κs =
@@ -24,7 +18,7 @@ returns : tie.Need-returns
 returns c =
     let args = c .before .args in
     let given : args .w ≡ weight (args .x) (args .n) = c .before .pre .0 in
-    c .scaled .ensures ∙ ap (λ (w : ℕ). w * args .x / ((args .n + 1) * 1000000)) given ∙ sym (weight-right (args .x) (args .n) (omega arith))
+    c .scaled .ensures ∙ ap (λ (w : ℕ). w * args .x / ((args .n + 1) * MILLION)) given ∙ sym (weight-right (args .x) (args .n) (omega arith))
 
 pub step-right-spec : {M : Type 1} → statement M
-step-right-spec = tie.close (tie.spec add-scaled mul-scaled scaled-requires returns)
+step-right-spec = tie.close (tie.spec (λ c. search needs) (λ c. search needs) scaled-requires returns)

@@ -1,15 +1,14 @@
 -- `poisson::truncate` meets its contract. Assumes nothing.
 -- The loop's invariant: n is not past the level, and the sum is S(n). The measure is what is left up to the level.
 use mathlib.Core.Path.{_≡_, ap, sym, _∙_}
-use mathlib.Core.Bool.{true}
-use Prim.Native.Nat.{_+_, _-_, _≤_}
+use Prim.Native.Nat.{_+_, _-_, _≤_, _<_}
 use native.Mathlib.Omega.{arith}
 use borrow.Author.Needs.{needs}
 use lib.ListN.{getD}
 use Rattle.definitions.specs.Weights.{weight, weightSum}
-use Rattle.definitions.specs.Level.{passes?, level}
+use Rattle.definitions.specs.Level.{level}
 use Rattle.laws.specs.WeightLaws.{weight-max, weightSum-max, weightSum-next, weightSum-zero}
-use Rattle.laws.specs.LevelLaws.{level-max}
+use Rattle.laws.specs.LevelLaws.{LEVELS, level-max}
 use Rattle.poisson.specs.CallerLaws.{weight-at}
 use Rattle.poisson.proofs.Search.{not-yet, this-one}
 use Rattle.poisson.proofs.truncate.Statement.{statement}
@@ -22,26 +21,14 @@ abbrev μ-loop : tie.MeasureT-loop
 μ-loop weights x tolerance n₀ sum₀ n sum = level x tolerance - n
 
 -- the level is an index of the array
-last : (c : tie.Start Inv-loop μ-loop) → level (c .args .x) (c .args .tolerance) ≤ 563
+last : (c : tie.Start Inv-loop μ-loop) → level (c .args .x) (c .args .tolerance) < LEVELS
 last c = level-max (c .args .x) (c .args .tolerance) (c .pre .2) (c .pre .3)
-
-element-copy-out-sum : tie.Need-element-copy-out-sum Inv-loop μ-loop
-element-copy-out-sum c = search needs
 
 loop-holds : tie.Need-loop-holds Inv-loop μ-loop
 loop-holds c =
     let start = c .before in
     let x = start .args .x in
     (omega arith, weight-at x 0 (start .args .weights .now) (start .pre .0) (omega arith) ∙ sym (weightSum-zero x))
-
-add-next : tie.Need-add-next Inv-loop μ-loop
-add-next c = omega (arith, last (c .before .before))
-
-mul-passes : tie.Need-mul-passes Inv-loop μ-loop
-mul-passes c = omega (arith, last (c .before .before))
-
-element-copy-out-passes : tie.Need-element-copy-out-passes Inv-loop μ-loop
-element-copy-out-passes c = omega (arith, last (c .before .before))
 
 passes-requires : tie.Need-passes-requires Inv-loop μ-loop
 passes-requires c κs =
@@ -61,8 +48,7 @@ returns c =
     let start = c .before .before .before .before .before in
     let x = start .args .x in
     let ε = start .args .tolerance in
-    let passed : passes? x ε (loop .n) ≡ true = sym (c .before .passes .ensures) ∙ c .if1 .taken in
-    let found : loop .n ≡ level x ε = this-one x ε (loop .n) (omega arith) (omega arith) (loop .inv .0) passed in
+    let found : loop .n ≡ level x ε = this-one x ε (loop .n) (omega arith) (omega arith) (loop .inv .0) (sym (c .before .passes .ensures) ∙ c .if1 .taken) in
     record { is-level = omega arith; is-sum = omega (arith, ap (weightSum x) found) }
 
 -- where the test fails the level is still ahead
@@ -73,26 +59,21 @@ ahead c =
     not-yet (start .args .x) (start .args .tolerance) (loop .n) (omega arith) (omega arith) (loop .inv .0)
     (sym (c .before .passes .ensures) ∙ c .if1 .left)
 
--- and the next entry is the next weight
+-- and its index is one of the array's
+inside : (c : tie.Else1 Inv-loop μ-loop) → c .before .before .before .loop .n + 1 < LEVELS
+inside c = omega (arith, ahead c, last (c .before .before .before .before .before))
+
+-- so the next entry is the next weight
 next-weight : (c : tie.Else1 Inv-loop μ-loop) → let start = c .before .before .before .before .before in let next = c .before .before .before .loop .n + 1 in getD (start .args .weights .now) next 0 ≡ weight (start .args .x) next
 next-weight c =
     let start = c .before .before .before .before .before in
-    weight-at (start .args .x) _ (start .args .weights .now) (start .pre .0) (omega (arith, ahead c, last start))
-
-mul-sum : tie.Need-mul-sum Inv-loop μ-loop
-mul-sum c = omega (arith, ahead c, last (c .before .before .before .before .before))
-
-element-copy-out-sum-2 : tie.Need-element-copy-out-sum-2 Inv-loop μ-loop
-element-copy-out-sum-2 c = omega (arith, ahead c, last (c .before .before .before .before .before))
+    weight-at (start .args .x) _ (start .args .weights .now) (start .pre .0) (inside c)
 
 add-sum : tie.Need-add-sum Inv-loop μ-loop
 add-sum c =
     let x = c .before .before .before .before .before .before .args .x in
     let n = c .before .before .before .before .loop .n in
-    omega (arith, next-weight (c .before), weight-max x (n + 1), weightSum-max x n, ahead (c .before), last (c .before .before .before .before .before .before))
-
-loop-less : tie.Need-loop-less Inv-loop μ-loop
-loop-less c = omega (arith, ahead (c .before))
+    omega (arith, next-weight (c .before), weight-max x (n + 1), weightSum-max x n, inside (c .before))
 
 loop-again : tie.Need-loop-again Inv-loop μ-loop
 loop-again c =
@@ -106,15 +87,15 @@ truncate-spec =
     (tie.spec
     Inv-loop
     μ-loop
-    element-copy-out-sum
+    (λ c. search needs)
     loop-holds
-    add-next
-    mul-passes
-    element-copy-out-passes
+    (λ c. omega (arith, last (c .before .before)))
+    (λ c. omega (arith, last (c .before .before)))
+    (λ c. omega (arith, last (c .before .before)))
     passes-requires
     returns
-    mul-sum
-    element-copy-out-sum-2
+    (λ c. omega (arith, inside c))
+    (λ c. omega (arith, inside c))
     add-sum
-    loop-less
+    (λ c. omega (arith, ahead (c .before)))
     loop-again)

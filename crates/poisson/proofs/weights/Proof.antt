@@ -7,10 +7,11 @@ use native.Mathlib.Omega.{arith}
 use lib.ListN.{getD}
 use Rattle.definitions.specs.Sums.{over}
 use Rattle.definitions.specs.Weights.{mode}
+use Rattle.laws.specs.LevelLaws.{LEVELS}
 use Rattle.laws.specs.ListLaws.{getD-over, over-store}
 use Rattle.laws.specs.ArrayLaws.{zeros, length-zeros}
 use Rattle.laws.specs.WeightLaws.{mode-low}
-use Rattle.poisson.specs.Stages.{LEVELS, weightsFrom}
+use Rattle.poisson.specs.Stages.{weightsFrom}
 use Rattle.poisson.proofs.Filling.{above, first, gone}
 use Rattle.poisson.proofs.weights.Statement.{statement}
 use Rattle.poisson.proofs.weights.Tie as tie

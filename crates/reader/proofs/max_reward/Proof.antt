@@ -11,7 +11,7 @@ returns : tie.Need-returns
 returns c =
     let start = c .before .before .before .before .before in
     let rewards = c .before .before .before .rewards-of in
-    rw (c .before .state-count .ensures) at (c .largest-of .ensures)
+    rw (c .before .before .state-count .ensures) at (c .largest-of .ensures)
     ∙ reward-of-rewards (modelOf (start .args .file .now)) (rewards .result) (omega arith) (rewards .ensures)
 
 pub max-reward-spec : {M : Type 1} → statement M

@@ -5,17 +5,17 @@ use denote.Ref.{now}
 use borrow.Author.Needs.{needs}
 use Rattle.definitions.specs.Moment.{answerOf}
 use Rattle.definitions.specs.Sheet.{sheetOf}
-use Rattle.laws.specs.Acceptance.{Facts, facts}
+use Rattle.laws.specs.Acceptance.{AcceptedFile, accepted-file}
 use Rattle.laws.specs.MomentLaws.{level-accepted}
 use Rattle.report.specs.ReportLaws.{level-sheet, refused-sheet, printed-as}
 use Rattle.report.proofs.report_file.Statement.{statement}
 use Rattle.report.proofs.report_file.Tie as tie
 
 -- a level is answered of an accepted file
-known : (c : tie.After-known-told2) → Facts (now (c .before .before .before .before .before .before .before .args .file)) 512
+known : (c : tie.After-known-told2) → AcceptedFile (now (c .before .before .before .before .before .before .before .args .file)) 512
 known c =
     let s = now (c .before .before .before .before .before .before .before .args .file) in
-    facts s 512 (level-accepted s 512 _ (sym (c .before .before .before .before .calculate .ensures .0) ∙ ap answerOf (c .before .outcome2 .given .1)))
+    accepted-file s 512 (level-accepted s 512 _ (sym (c .before .before .before .before .calculate .ensures .0) ∙ ap answerOf (c .before .outcome2 .given .1)))
 
 pub report-file-spec : {M : Type 1} → statement M
 unfolding sheetOf

@@ -7,7 +7,7 @@ use Rattle.sheet.proofs.put_figure.Statement.{statement}
 use Rattle.sheet.proofs.put_figure.Tie as tie
 
 pub put-figure-spec : {M : Type 1} → statement M
-unfolding figure digit
+unfolding figure
 put-figure-spec =
     tie.close
     (tie.spec
@@ -20,5 +20,5 @@ put-figure-spec =
     let third = c .before .before in
     let second = third .before .before .before .before in
     let first = second .before .before .before .before in
-    let units : first .before .last-digit .result ≡ digit (first .before .before .before .before .args .x) 12 = first .before .last-digit .ensures in
+    let units : first .before .digit-at .result ≡ digit (first .before .before .before .before .args .x) 12 = first .before .digit-at .ensures in
     rw (← units) (then (then (first .put .ensures) (second .put2 .ensures)) (third .put-digits .ensures))))

@@ -1,7 +1,9 @@
 -- `sheet::put_number` meets its contract: two texts, one after the other. Assumes nothing.
+use native.Mathlib.Omega.{arith}
 use borrow.Author.Needs.{needs}
 use Rattle.definitions.specs.Sheet.{decimal}
 use Rattle.sheet.specs.Puts.{then}
+use Rattle.sheet.specs.TextLaws.{places-limit}
 use Rattle.sheet.proofs.put_number.Statement.{statement}
 use Rattle.sheet.proofs.put_number.Tie as tie
 
@@ -11,7 +13,7 @@ put-number-spec =
     tie.close
     (tie.spec
     (λ c κs. search needs)
-    (λ c κs. search needs)
+    (λ c κs. omega (arith, places-limit (c .before .before .before .args .x) 19))
     (λ c κs. search needs)
     (λ c. search needs)
     (λ c.

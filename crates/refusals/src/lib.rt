@@ -1,0 +1,142 @@
+// What stops a file: the table's rows in its order, cut into the parts that the calls share.
+//
+// A file is a slice of any length, and nothing is asked of it. One that is accepted is framed (`Framed` in
+// the crate laws), so that the crate reader can read what it states.
+ghost use mathlib.Core.Path.{_≡_};
+ghost use mathlib.Core.Bool.{_||_};
+ghost use mathlib.Core.List.{_++_};
+ghost use Prim.Native.Nat.{_*_, _<_, _^_};
+ghost use lib.Dec.{eqb, ltb};
+ghost use Rattle.definitions.specs.File.{stateCount, highestMoment, timeField};
+ghost use Rattle.definitions.specs.Chain.{modelOf, uniformRate};
+ghost use Rattle.definitions.specs.Rules.{framing, quantities, jumps, room, firstHeld, judgedBy, judgement, verdict};
+ghost use Rattle.laws.specs.Acceptance.{Framed};
+ghost use Rattle.refusals.specs.Rated.{ratedAs};
+use definitions::Judgement;
+
+// The header's bytes, and the largest number that each row lets pass.
+
+const HEADER: usize = 13;
+
+const MOST_STATES: u64 = 64;
+
+const MOST_MOMENTS: u64 = 8;
+
+const MOST_TOLERANCE: u64 = 100_000_000;
+
+const MOST_REWARD: u64 = 1_000_000;
+
+const MOST_ROW_SUM: u64 = 10_000_000;
+
+const MOST_JUMPS: u64 = 256_000_000;
+
+fn outside(x: u64, most: u64) -> bool
+    ensures { λ r. ⌜ r ≡ (eqb x 0 || ltb most x) ⌝ }
+{
+    x == 0 || x > most
+}
+
+// Rows 1 to 6: the framing.
+fn judge_framing(file: &[u8]) -> Judgement
+    ensures { λ r. ⌜ verdict r ≡ judgedBy (framing (now (file .entry))) ⌝ }
+{
+    if file.len() < HEADER {
+        return Judgement::Refused(1);
+    }
+    let length = reader::length_field(file);
+    if length != (file.len() - 2) as u64 {
+        return Judgement::Refused(2);
+    }
+    if reader::version(file) != 1 {
+        return Judgement::Refused(3);
+    }
+    let states = reader::state_count(file) as u64;
+    if outside(states, MOST_STATES) {
+        return Judgement::Refused(4);
+    }
+    if outside(reader::highest_moment(file) as u64, MOST_MOMENTS) {
+        return Judgement::Refused(5);
+    }
+    if length != 4 * states * states + 11 {
+        return Judgement::Refused(6);
+    }
+    Judgement::Accepted
+}
+
+// What the rows say that every call which reads a file shares: E, the uniformization rate, or the
+// number of the first row that holds.
+pub enum Rated {
+    Rate(u64),
+    Refused(u8),
+}
+
+// Rows 7 to 11: the quantities. Some row sum is above its limit just where E is.
+fn judge_quantities(file: &[u8]) -> Rated
+    requires { ⌜ Framed (now file) ⌝ }
+    ensures { λ r. ⌜ ratedAs r ≡ firstHeld (quantities (now (file .entry))) (uniformRate (modelOf (now (file .entry)))) ⌝ }
+{
+    if outside(reader::tolerance(file), MOST_TOLERANCE) {
+        return Rated::Refused(7);
+    }
+    if reader::time(file) == 0 {
+        return Rated::Refused(8);
+    }
+    let most = reader::max_reward(file);
+    if most > MOST_REWARD {
+        return Rated::Refused(9);
+    }
+    if most == 0 {
+        return Rated::Refused(10);
+    }
+    let sums = reader::row_sums(file);
+    let rate = reader::uniform_rate(file, &sums);
+    if rate > MOST_ROW_SUM {
+        return Rated::Refused(11);
+    }
+    Rated::Rate(rate)
+}
+
+// Rows 1 to 11.
+pub fn judge_model(file: &[u8]) -> Rated
+    ensures { λ r. ⌜ ratedAs r ≡ firstHeld (framing (now (file .entry)) ++ quantities (now (file .entry))) (uniformRate (modelOf (now (file .entry)))) ⌝ }
+{
+    let framing = judge_framing(file);
+    match framing {
+        Judgement::Refused(k) => Rated::Refused(k),
+        Judgement::Accepted => judge_quantities(file),
+    }
+}
+
+// Row 12, for one time: E × T is above its limit.
+pub fn too_many_jumps(rate: u64, time: u64) -> bool
+    requires { ⌜ (rate < 2 ^ 32) × (time < 2 ^ 32) ⌝ }
+    ensures { λ r. ⌜ r ≡ ltb 256000000 (rate * time) ⌝ }
+{
+    reader::jump_millionths(rate, time) > MOST_JUMPS
+}
+
+// The number of the first row that holds, for a file lent with so many answer cells; accepted where
+// none does.
+pub fn judge(file: &[u8], cells: usize) -> Judgement
+    ensures { λ r. ⌜ verdict r ≡ judgement (now (file .entry)) cells ⌝ }
+{
+    let model = judge_model(file);
+    match model {
+        Rated::Refused(k) => Judgement::Refused(k),
+        Rated::Rate(rate) => judge_run(file, rate, cells),
+    }
+}
+
+// Rows 12 and 13, for the file's time: the jumps, and the room for the moments.
+fn judge_run(file: &[u8], rate: u64, cells: usize) -> Judgement
+    requires { ⌜ Framed (now file) × (rate < 2 ^ 32) ⌝ }
+    ensures { λ r. ⌜ verdict r ≡ judgedBy (jumps rate (timeField (now (file .entry))) ++ room (stateCount (now (file .entry)) * highestMoment (now (file .entry))) cells) ⌝ }
+{
+    if too_many_jumps(rate, reader::time(file)) {
+        return Judgement::Refused(12);
+    }
+    if cells < reader::state_count(file) * reader::highest_moment(file) {
+        return Judgement::Refused(13);
+    }
+    Judgement::Accepted
+}
