@@ -2,8 +2,9 @@
 use Prim.Native.Nat.{ℕ, _≤_, max}
 use mathlib.Core.Path.{_≡_, refl}
 use mathlib.Core.List.{List}
+use Rattle.definitions.specs.declared.Sizes.{Sizes}
 use Rattle.definitions.specs.Sums.{largest}
-use Rattle.definitions.specs.Chain.{Model, rowSum, uniformRate, maxReward, padded}
+use Rattle.definitions.specs.Chain.{Model, rowSum, uniformRate, maxReward, padded, sizesOf}
 use Rattle.laws.specs.SumLaws.{largest-same}
 use Rattle.laws.specs.ChainLaws.{getD-padded}
 use Rattle.laws.specs.ArrayLaws.{entryOf}
@@ -21,3 +22,7 @@ rate-of-sums m sums h e = rw (largest-padded (m .states) (rowSum m) sums h e) re
 pub reward-of-rewards : (m : Model) (rewards : List ℕ) → m .states ≤ 64 → rewards ≡ padded (m .states) (m .reward) → largest (m .states) (entryOf rewards) ≡ maxReward m
 unfolding maxReward
 reward-of-rewards m rewards h e = largest-padded (m .states) (m .reward) rewards h e
+
+-- M, R, E and F, each as it was read
+pub sizes-read : {M R E F : ℕ} (m : Model) → M ≡ m .states → R ≡ m .highest → E ≡ uniformRate m → F ≡ maxReward m → _≡_ {A = Sizes} (record { states = M; highest = R; rate = E; largest = F }) (sizesOf m)
+sizes-read m a b c d = rw (a, b, c, d) refl

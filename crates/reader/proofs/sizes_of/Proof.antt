@@ -1,12 +1,12 @@
 -- `reader::sizes_of` meets its contract. Assumes nothing.
-use mathlib.Core.Path.{refl}
 use borrow.Author.Needs.{needs}
+use Rattle.reader.specs.Filling.{sizes-read}
 use Rattle.reader.proofs.sizes_of.Statement.{statement}
 use Rattle.reader.proofs.sizes_of.Tie as tie
 
 returns : tie.Need-returns
 returns c =
-    rw (c .before .before .before .state-count .ensures, c .before .before .highest-moment .ensures, c .before .uniform-rate .ensures, c .max-reward .ensures) refl
+    sizes-read _ (c .before .before .before .state-count .ensures) (c .before .before .highest-moment .ensures) (c .before .uniform-rate .ensures) (c .max-reward .ensures)
 
 pub sizes-of-spec : {M : Type 1} → statement M
 sizes-of-spec =
