@@ -1,55 +1,35 @@
 -- Digits, and how long the texts of the sheet are. Assumes nothing.
-use mathlib.Core.Path.{_≡_, refl, ap, _∙_}
+use mathlib.Core.Path.{_≡_}
 use mathlib.Core.Bool.{Bool, true, false}
-use mathlib.Core.List.{List, [], _∷_, _++_, append-assoc}
+use mathlib.Core.List.{List, append-assoc}
 use Prim.Native.Nat.{ℕ, zero, suc, _+_, _-_, _*_, _/_, _%_, _^_, _≤_, _<_}
 use native.Mathlib.Nat.{pow-le-pow-right, one-le-pow, mul-le-mul-right}
+use native.Mathlib.Numerals.{add-one, sub-one}
 use native.Mathlib.Decide.{decLe}
 use native.Mathlib.Omega.{arith}
 use lib.Dec.{ltb}
-use lib.ListN.{length, getD}
+use lib.ListN.{getD}
 use borrow.Author.Tests.{lt-ltb, le-ltb}
 use Rattle.definitions.specs.Sums.{pick}
-use Rattle.definitions.specs.Sheet.{digit, digits, places, momentLine}
+use Rattle.definitions.specs.Sheet.{places, momentLine}
 use Rattle.laws.specs.MomentLaws.{row-of-cell, state-of-cell, count-max}
 use Rattle.sheet.specs.Printed.{line, lineWidth, Shape}
 
 pub power-positive : (p : ℕ) → 0 < 10 ^ p
 power-positive p = one-le-pow p 10 (omega arith)
 
-pub length-digits : (x p : ℕ) → length (digits x p) ≡ p
-unfolding digits
-length-digits x zero = refl
-length-digits x (suc p) = ap suc (length-digits x p)
-
--- the highest of p digits, and the others
-pub next-digit : (x p : ℕ) → 0 < p → digit x (p - 1) ∷ digits x (p - 1) ≡ digits x p
-unfolding digits
-next-digit x zero pos = absurd (omega arith)
-next-digit x (suc q) pos =
-    let e : suc q - 1 ≡ q = omega arith in
-    rw e
-
--- where x has at most j + 1 digits, to look for more finds the same
-places-same : (x j k : ℕ) → j ≤ k → x < 10 ^ suc j → places x k ≡ places x j
+-- where powers up to 10^p are looked at: one digit where p is 0, p + 1 where x is not below 10^p, and else as many as with the lower powers
+pub places-none : (x p : ℕ) → p ≡ 0 → places x p ≡ 1
 unfolding places
-places-same x j zero h high = let e : j ≡ 0 = omega arith in rw e
-places-same x j (suc k) h high =
-    elim (decLe j k) [
-      | yes l ↦
-          let below : x < 10 ^ suc k = omega (arith, pow-le-pow-right {n = 10} (omega arith) {i = suc j} {j = suc k} (omega arith)) in
-          rw (lt-ltb x (10 ^ suc k) below) (places-same x j k l high)
-      | no n ↦ let e : j ≡ suc k = omega arith in rw e
-    ]
+places-none x p none = rw none
 
--- x has p digits where it is below 10^p, and not below 10^(p − 1) unless p is 1
-pub places-found : (x p : ℕ) → 0 < p → p ≤ 20 → x < 10 ^ p → (1 < p → 10 ^ (p - 1) ≤ x) → places x 19 ≡ p
+pub places-here : (x p : ℕ) → 0 < p → 10 ^ p ≤ x → places x p ≡ p + 1
 unfolding places
-places-found x zero pos most high low = absurd (omega arith)
-places-found x (suc zero) pos most high low = places-same x 0 19 (omega arith) high
-places-found x (suc (suc q)) pos most high low =
-    let e : suc (suc q) - 1 ≡ suc q = omega arith in
-    places-same x (suc q) 19 (omega arith) high ∙ rw (le-ltb x (10 ^ suc q) (rw e at (low (omega arith))))
+places-here x (suc q) pos h = rw (le-ltb x (10 ^ suc q) h, add-one)
+
+pub places-below : (x p : ℕ) → 0 < p → x < 10 ^ p → places x p ≡ places x (p - 1)
+unfolding places
+places-below x (suc q) pos h = rw (lt-ltb x (10 ^ suc q) h, sub-one)
 
 picked : (t : Bool) {a b m : ℕ} → a ≤ m → b ≤ m → pick t a b ≤ m
 picked true p q = p
@@ -62,8 +42,16 @@ places-limit x zero = omega arith
 places-limit x (suc k) = picked (ltb x (10 ^ suc k)) (omega (arith, places-limit x k)) (omega arith)
 
 -- and at most j + 1 where x is below 10^(j + 1)
-pub places-short : (x j : ℕ) → j ≤ 19 → x < 10 ^ suc j → places x 19 ≤ suc j
-places-short x j h high = omega (arith, places-same x j 19 h high, places-limit x j)
+pub places-short : (x j k : ℕ) → x < 10 ^ suc j → places x k ≤ suc j
+unfolding places
+places-short x j zero high = omega arith
+places-short x j (suc k) high =
+    elim (decLe (suc k) j) [
+      | yes l ↦ omega (arith, places-limit x (suc k))
+      | no n ↦
+          let below : x < 10 ^ suc k = omega (arith, pow-le-pow-right {n = 10} (omega arith) {i = suc j} {j = suc k} (omega arith)) in
+          rw (lt-ltb x (10 ^ suc k) below) (places-short x j k high)
+    ]
 
 -- at most 512 moments
 pub area : {M R : ℕ} {cells : List ℕ} → Shape M R cells → M * R ≤ 512
@@ -85,7 +73,7 @@ narrow {M} {R} k h l =
       some = pos;
       state = s;
       r = m;
-      width = omega (arith, places-short (k / R + 1) 1 (omega arith) (omega arith), places-short (k % R + 1) 0 (omega arith) (omega arith));
+      width = omega (arith, places-short (k / R + 1) 1 19 (omega arith), places-short (k % R + 1) 0 19 (omega arith));
     }
 
 -- a moment's line, as its texts are put

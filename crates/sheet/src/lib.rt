@@ -83,27 +83,25 @@ fn put_digits(out: &mut [u8], at: usize, x: u64, p: usize) -> usize
     requires { ⌜ (p ≤ 20) × (at + p ≤ length (now out)) ⌝ }
     ensures { λ r. ⌜ Puts (digits x p) p at (now (out .entry)) (now (out .exit)) r ⌝ }
 {
-    let mut to = at;
-    let mut left = p;
-    while left > 0 {
-        left -= 1;
-        to = put(out, to, digit_at(x, left));
+    if p == 0 {
+        return at;
     }
-    to
+    let to = put(out, at, digit_at(x, p - 1));
+    put_digits(out, to, x, p - 1)
 }
 
-// How many digits x has in decimal: at most 20.
+// How many digits x has in decimal: one more than the highest power of ten that is not above it.
 fn places_of(x: u64) -> usize
     ensures { λ r. ⌜ r ≡ places x 19 ⌝ }
 {
-    let mut p = 1;
-    while p < 20 {
-        if x < power(p) {
-            return p;
+    let mut p = 19;
+    while p > 0 {
+        if x >= power(p) {
+            return p + 1;
         }
-        p += 1;
+        p -= 1;
     }
-    p
+    1
 }
 
 // x in decimal, and the byte after it.
