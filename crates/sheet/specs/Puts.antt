@@ -3,6 +3,7 @@ use mathlib.Core.Path.{_≡_, refl, _∙_, ap}
 use mathlib.Core.List.{List, [], _∷_, _++_}
 use Prim.Native.Nat.{ℕ, suc, _+_, _≤_}
 use native.Mathlib.Nat.{suc-add, add-suc, add-zero, zero-add}
+use native.Mathlib.Numerals.{add-one}
 use native.Mathlib.Omega.{arith}
 use lib.ListN.{length, set, drop, length-append}
 use lib.Seq.{sets, sets-eq, length-sets}
@@ -31,6 +32,10 @@ then {t} {u} {at = at} {old = old} p q =
       within = omega arith;
       bytes = rw (q .bytes, p .bytes, p .after) (sets-append t u old at);
     }
+
+-- after a text's first byte, what is left to store is the rest
+pub first-byte : {b m at next : ℕ} {old new : List ℕ} → Puts (b ∷ []) m at old new next → (rest : List ℕ) → sets new next rest ≡ sets old at (b ∷ rest)
+first-byte p rest = rw (p .bytes, p .after, add-one)
 
 -- a text of at most m bytes is one of at most n, where m is no more
 pub wider : {t : List ℕ} {m n at next : ℕ} {old new : List ℕ} → m ≤ n → Puts t m at old new next → Puts t n at old new next

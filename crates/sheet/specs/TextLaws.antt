@@ -1,22 +1,32 @@
 -- Digits, and how long the texts of the sheet are. Assumes nothing.
-use mathlib.Core.Path.{_≡_}
+use mathlib.Core.Path.{_≡_, refl, ap}
 use mathlib.Core.Bool.{Bool, true, false}
-use mathlib.Core.List.{List, append-assoc}
+use mathlib.Core.List.{List, _∷_, append-assoc}
 use Prim.Native.Nat.{ℕ, zero, suc, _+_, _-_, _*_, _/_, _%_, _^_, _≤_, _<_}
 use native.Mathlib.Nat.{pow-le-pow-right, one-le-pow, mul-le-mul-right}
 use native.Mathlib.Numerals.{add-one, sub-one}
 use native.Mathlib.Decide.{decLe}
 use native.Mathlib.Omega.{arith}
 use lib.Dec.{ltb}
-use lib.ListN.{getD}
+use lib.ListN.{length, getD}
 use borrow.Author.Tests.{lt-ltb, le-ltb}
 use Rattle.definitions.specs.Sums.{pick}
-use Rattle.definitions.specs.Sheet.{places, momentLine}
+use Rattle.definitions.specs.Sheet.{digit, digits, places, momentLine}
 use Rattle.laws.specs.MomentLaws.{row-of-cell, state-of-cell, count-max}
 use Rattle.sheet.specs.Printed.{line, lineWidth, Shape}
 
 pub power-positive : (p : ℕ) → 0 < 10 ^ p
 power-positive p = one-le-pow p 10 (omega arith)
+
+pub length-digits : (x p : ℕ) → length (digits x p) ≡ p
+unfolding digits
+length-digits x zero = refl
+length-digits x (suc p) = ap suc (length-digits x p)
+
+-- the highest of p digits, and the others
+pub next-digit : (x p : ℕ) → 0 < p → digit x (p - 1) ∷ digits x (p - 1) ≡ digits x p
+unfolding digits
+next-digit x (suc q) pos = rw sub-one
 
 -- where powers up to 10^p are looked at: one digit where p is 0, p + 1 where x is not below 10^p, and else as many as with the lower powers
 pub places-none : (x p : ℕ) → p ≡ 0 → places x p ≡ 1

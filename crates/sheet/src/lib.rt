@@ -83,11 +83,13 @@ fn put_digits(out: &mut [u8], at: usize, x: u64, p: usize) -> usize
     requires { ⌜ (p ≤ 20) × (at + p ≤ length (now out)) ⌝ }
     ensures { λ r. ⌜ Puts (digits x p) p at (now (out .entry)) (now (out .exit)) r ⌝ }
 {
-    if p == 0 {
-        return at;
+    let mut to = at;
+    let mut left = p;
+    while left > 0 {
+        left -= 1;
+        to = put(out, to, digit_at(x, left));
     }
-    let to = put(out, at, digit_at(x, p - 1));
-    put_digits(out, to, x, p - 1)
+    to
 }
 
 // How many digits x has in decimal: one more than the highest power of ten that is not above it.
