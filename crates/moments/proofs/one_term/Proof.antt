@@ -2,6 +2,7 @@
 use native.Mathlib.Nat.{mul-le-mul}
 use native.Mathlib.Omega.{arith}
 use mathlib.Core.Path.{refl}
+use Rattle.definitions.specs.Vectors.{ONE}
 use Rattle.definitions.specs.Moment.{term}
 use Rattle.muldiv.specs.QuotientLaws.{scalable-part}
 use Rattle.moments.specs.RunningLaws.{term-max}
@@ -16,7 +17,7 @@ unfolding term
 returns c = (refl, term-max (c .before .args .w) (c .before .args .u) (c .before .pre .1))
 
 scaled-requires : tie.Need-scaled-requires
-scaled-requires c κs = scalable-part (c .before .args .w) (c .before .args .u) 1000000000000 (omega arith) (omega arith) (omega arith) (omega arith)
+scaled-requires c κs = scalable-part (c .before .args .w) (c .before .args .u) ONE (omega arith) (omega arith) (omega arith) (omega arith)
 
 returns-2 : tie.Need-returns-2
 unfolding term

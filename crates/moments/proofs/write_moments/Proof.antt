@@ -5,6 +5,7 @@ use native.Mathlib.Omega.{arith}
 use mathlib.Core.Path.{_≡_, refl, sym}
 use lib.ListN.{length, getD, length-set}
 use Rattle.definitions.specs.Sums.{over}
+use Rattle.definitions.specs.Vectors.{ONE}
 use Rattle.definitions.specs.Moment.{lastQuotient}
 use Rattle.laws.specs.ListLaws.{over-none, over-store}
 use Rattle.muldiv.specs.QuotientLaws.{scalable-by}
@@ -33,7 +34,7 @@ scaled-requires c κs =
     let k = c .before .before .loop .k in
     let a = getD (start .args .sums .now) k 0 in
     let below = start .pre .0 .below k (c .before .loop-test .taken) in
-    scalable-by a 1000000000000 (start .args .total) 1000000000000 (start .pre .0 .total-pos) (omega arith) (omega arith) (start .pre .0 .total-max) (omega (arith, mul-le-mul-right 1000000000000 below)) (omega arith)
+    scalable-by a ONE (start .args .total) ONE (start .pre .0 .total-pos) (omega arith) (omega arith) (start .pre .0 .total-max) (omega (arith, mul-le-mul-right ONE below)) (omega arith)
 
 mul-cells : tie.Need-mul-cells Inv-loop μ-loop
 mul-cells c = omega arith
