@@ -1,5 +1,5 @@
 #!/usr/bin/env python3
-"""Writes stdin and stdout: the files that the reader is run on, and the row that stops each (0: none).
+"""Writes stdin and stdout: the files that are judged, and the row that stops each (0: none).
 
 The answers are computed here from document 01's table alone. Where a file is short enough for the
 printed sheet they are also held to the independent reference, which is run as a program; it lends

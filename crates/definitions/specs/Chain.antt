@@ -69,9 +69,12 @@ chainOf m = record { states = m .states; rate = uniformRate m; entry = c m; rewa
 unfoldable pub padded : ℕ → (ℕ → ℕ) → List ℕ
 padded M v = firsts 64 (λ i. pick (ltb i M) (v i) 0)
 
--- c as one array of 64 rows of 64 entries, row after row: 0 past M
+-- c as one array of 64 rows of 64 entries, row after row, 0 past M: entry k of it, and the array
+unfoldable pub flatEntry : Chain → ℕ → ℕ
+flatEntry ch k = pick (ltb (k / 64) (ch .states) && ltb (k % 64) (ch .states)) (ch .entry (k / 64) (k % 64)) 0
+
 unfoldable pub flat : Chain → List ℕ
-flat ch = firsts 4096 (λ k. pick (ltb (k / 64) (ch .states) && ltb (k % 64) (ch .states)) (ch .entry (k / 64) (k % 64)) 0)
+flat ch = firsts 4096 (flatEntry ch)
 
 -- the chain that stands in arrays, with M, E and F among its sizes: c as 64 rows of 64 entries, and f for 64 states
 abbrev pub arrays : Sizes → List ℕ → List ℕ → Chain

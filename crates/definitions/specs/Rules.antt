@@ -41,8 +41,11 @@ quantities s =
     ∷ []
 
 -- row 12, the jumps: E × T, for a time T
+abbrev pub tooManyJumps : ℕ → ℕ → Bool
+tooManyJumps E T = ltb 256000000 (E * T)
+
 unfoldable pub jumps : ℕ → ℕ → Rows
-jumps E T = (12, ltb 256000000 (E * T)) ∷ []
+jumps E T = (12, tooManyJumps E T) ∷ []
 
 -- row 13, the room: fewer lent than needed
 unfoldable pub room : ℕ → ℕ → Rows

@@ -9,7 +9,7 @@ use lib.ListN.{length}
 use lib.Dec.{ltb, eqb}
 use borrow.Author.Tests.{ltb-true, ltb-false, eqb-true, eqb-false, not-false}
 use Rattle.definitions.specs.Sums.{largest, anyAbove}
-use Rattle.definitions.specs.File.{lengthField, version, stateCount, highestMoment, toleranceField, timeField, rewardField}
+use Rattle.definitions.specs.File.{lengthField, stateCount, highestMoment, toleranceField, timeField, rewardField}
 use Rattle.definitions.specs.Chain.{Model, modelOf, rowSum, uniformRate, maxReward, jumpMillionths, chainOf}
 use Rattle.definitions.specs.Rules.{accepted, Rows, framing, quantities, jumps, room, rows, firstHeld, judgedBy, judgement}
 use Rattle.laws.specs.SumLaws.{any-largest}
@@ -43,26 +43,21 @@ none-above k n f h = ltb-false k (largest n f) (sym (any-largest k n f) ∙ h)
 some-above : (k n : ℕ) (f : ℕ → ℕ) → not (anyAbove k n f) ≡ false → k < largest n f
 some-above k n f h = ltb-true k (largest n f) (sym (any-largest k n f) ∙ not-false (anyAbove k n f) h)
 
--- what the framing tells of a file: M is 1 to 64, R is 1 to 8, and M rewards and M rows of M − 1 rates stand after the header's 13 bytes
+-- what the reader asks of a file: M is 1 to 64, and M rewards and M rows of M − 1 rates stand after the header's 13 bytes
 pub record Framed (s : List ℕ) : Type 0 where
   pub states-min : 1 ≤ stateCount s
   pub states-max : stateCount s ≤ 64
-  pub highest-min : 1 ≤ highestMoment s
-  pub highest-max : highestMoment s ≤ 8
   pub size : length s ≡ 4 * stateCount s * stateCount s + 13
 
 -- what the steps may assume of a model
 pub record WithinLimits (m : Model) : Type 0 where
-  pub states-pos : 1 ≤ m .states
   pub states-max : m .states ≤ 64
   pub highest-pos : 1 ≤ m .highest
   pub highest-max : m .highest ≤ 8
   pub tolerance-pos : 1 ≤ m .tolerance
   pub tolerance-max : m .tolerance ≤ 100000000
-  pub time-pos : 1 ≤ m .time
   pub rewards-max : maxReward m ≤ 1000000
   pub rewards-pos : 0 < maxReward m
-  pub rows-max : largest (m .states) (rowSum m) ≤ 10000000
   pub rate-min : 0 < uniformRate m
   pub rate-max : uniformRate m ≤ 10000000
   pub jumps-pos : 1 ≤ jumpMillionths m
@@ -80,37 +75,37 @@ unfolding framing
 framed-by s row =
     let row4 = row .1 .1 .1 in
     let states = in-range (stateCount s) 64 (row4 .0) in
-    let highest = in-range (highestMoment s) 8 (row4 .1 .0) in
     let header : 13 ≤ length s = ltb-false (length s) 13 (row .0) in
     let after : lengthField s ≡ length s - 2 = held-equal (lengthField s) (length s - 2) (row .1 .0) in
     let sized : lengthField s ≡ 4 * stateCount s * stateCount s + 11 = held-equal (lengthField s) (4 * stateCount s * stateCount s + 11) (row4 .1 .1 .0) in
     record {
       states-min = states .0;
       states-max = states .1;
-      highest-min = highest .0;
-      highest-max = highest .1;
       size = omega arith;
     }
 
+pub moments-by : (s : List ℕ) → NoneHold (framing s) → (1 ≤ highestMoment s) × (highestMoment s ≤ 8)
+unfolding framing
+moments-by s row = in-range (highestMoment s) 8 (row .1 .1 .1 .1 .0)
+
 -- the rows 7 to 12
-pub limits-by : (s : List ℕ) → Framed s → NoneHold (quantities s) → NoneHold (jumps (uniformRate (modelOf s)) (timeField s)) → WithinLimits (modelOf s)
+pub limits-by : (s : List ℕ) → NoneHold (framing s) → NoneHold (quantities s) → NoneHold (jumps (uniformRate (modelOf s)) (timeField s)) → WithinLimits (modelOf s)
 unfolding quantities jumps maxReward uniformRate jumpMillionths
-limits-by s f row row12 =
+limits-by s first row row12 =
+    let f = framed-by s first in
+    let highest = moments-by s first in
     let row9 = row .1 .1 in
     let tolerance = in-range (toleranceField s) 100000000 (row .0) in
     let time : timeField s ≡ 0 → ⊥ = eqb-false (timeField s) 0 (row .1 .0) in
     let sums : largest (stateCount s) (rowSum (modelOf s)) ≤ 10000000 = none-above 10000000 (stateCount s) (rowSum (modelOf s)) (row9 .1 .1 .0) in
     record {
-      states-pos = f .states-min;
       states-max = f .states-max;
-      highest-pos = f .highest-min;
-      highest-max = f .highest-max;
+      highest-pos = highest .0;
+      highest-max = highest .1;
       tolerance-pos = tolerance .0;
       tolerance-max = tolerance .1;
-      time-pos = omega (arith, time);
       rewards-max = none-above 1000000 (stateCount s) (rewardField s) (row9 .0);
       rewards-pos = some-above 0 (stateCount s) (rewardField s) (row9 .1 .0);
-      rows-max = sums;
       rate-min = rate-pos (modelOf s);
       rate-max = omega (arith, sums);
       jumps-pos = mul-pos (rate-pos (modelOf s)) (omega (arith, time));
@@ -120,6 +115,7 @@ limits-by s f row row12 =
 -- the rows 1 to 11, which every call that reads a file shares: what their acceptance with E tells
 pub record Rateable (s : List ℕ) (E : ℕ) : Type 0 where
   pub framed : Framed s
+  pub highest-max : highestMoment s ≤ 8
   pub rate : E ≡ uniformRate (modelOf s)
   pub rate-max : E ≤ 10000000
 
@@ -130,6 +126,7 @@ rateable s E h =
     let rate : uniformRate (modelOf s) ≡ E = accepted-value (framing s ++ quantities s) (uniformRate (modelOf s)) E h in
     record {
       framed = framed-by s (none .0);
+      highest-max = moments-by s (none .0) .1;
       rate = sym rate;
       rate-max = omega (arith, none-above 10000000 (stateCount s) (rowSum (modelOf s)) (none .1 .1 .1 .1 .1 .0));
     }
@@ -148,10 +145,9 @@ accepted-file s cells passed =
     let last = none-in-parts (framing s ++ quantities s ++ X) C (none-hold (rows s cells) (tt {0}) tt passed) in
     let to12 = none-in-parts (framing s ++ quantities s) X (last .0) in
     let to11 = none-in-parts (framing s) (quantities s) (to12 .0) in
-    let f : Framed s = framed-by s (to11 .0) in
     record {
-      framed = f;
-      limits = limits-by s f (to11 .1) (to12 .1);
+      framed = framed-by s (to11 .0);
+      limits = limits-by s (to11 .0) (to11 .1) (to12 .1);
       room = ltb-false cells (stateCount s * highestMoment s) (last .1 .0);
     }
 

@@ -3,12 +3,11 @@ use Prim.Native.Nat.{ℕ, zero, suc, _+_, _*_, _-_, _/_, _%_, _≤_, _<_}
 use native.Mathlib.Omega.{arith}
 use native.Mathlib.Decide.{ℕ-discrete}
 use mathlib.Core.Path.{_≡_, refl, _∙_}
-use mathlib.Core.Bool.{_&&_}
 use lib.ListN.{getD}
 use lib.Dec.{eqb, ltb}
 use borrow.Author.Tests.{eq-eqb, ne-eqb, lt-ltb}
 use Rattle.definitions.specs.Sums.{sum, pick}
-use Rattle.definitions.specs.Chain.{Model, jumpRate, rowSum, uniformRate, c, maxReward, Chain, chainOf, padded, flat, arrays, sizesOf}
+use Rattle.definitions.specs.Chain.{Model, jumpRate, rowSum, uniformRate, c, maxReward, Chain, chainOf, padded, flatEntry, flat, arrays, sizesOf}
 use Rattle.laws.specs.SumLaws.{sum-same, le-largest}
 use Rattle.laws.specs.ListLaws.{getD-firsts}
 
@@ -50,18 +49,20 @@ pub getD-padded : (M : ℕ) (v : ℕ → ℕ) (i : ℕ) → M ≤ 64 → i < M �
 unfolding padded
 getD-padded M v i h l = getD-firsts 0 64 (λ j. pick (ltb j M) (v j) 0) i (omega arith) ∙ rw (lt-ltb i M l)
 
--- c(i,j) in its place of the array
-pub getD-flat : (ch : Chain) (i j : ℕ) → ch .states ≤ 64 → i < ch .states → j < ch .states → getD (flat ch) (i * 64 + j) 0 ≡ ch .entry i j
-unfolding flat
-getD-flat ch i j h li lj =
-    getD-firsts 0 4096 (λ k. pick (ltb (k / 64) (ch .states) && ltb (k % 64) (ch .states)) (ch .entry (k / 64) (k % 64)) 0) (i * 64 + j) (omega arith)
-    ∙ rw (row, column, lt-ltb i (ch .states) li, lt-ltb j (ch .states) lj)
+-- c(i,j) stands at 64 × i + j
+pub flat-entry : (ch : Chain) (i j : ℕ) → ch .states ≤ 64 → i < ch .states → j < ch .states → flatEntry ch (i * 64 + j) ≡ ch .entry i j
+unfolding flatEntry
+flat-entry ch i j h li lj = rw (row, column, lt-ltb i (ch .states) li, lt-ltb j (ch .states) lj) refl
   where
     row : (i * 64 + j) / 64 ≡ i
     row = omega arith
 
     column : (i * 64 + j) % 64 ≡ j
     column = omega arith
+
+pub getD-flat : (ch : Chain) (i j : ℕ) → ch .states ≤ 64 → i < ch .states → j < ch .states → getD (flat ch) (i * 64 + j) 0 ≡ ch .entry i j
+unfolding flat
+getD-flat ch i j h li lj = getD-firsts 0 4096 (flatEntry ch) (i * 64 + j) (omega arith) ∙ flat-entry ch i j h li lj
 
 -- two chains that agree at every pair of states
 pub record SameChain (a b : Chain) : Type 0 where

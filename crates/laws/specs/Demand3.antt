@@ -1,21 +1,21 @@
 -- Demand 3, of the definitions: for every accepted file the moments at the level satisfy Promise.
 use Prim.Native.Nat.{ℕ, _<_}
 use native.Mathlib.Omega.{arith}
-use mathlib.Core.Path.{_≡_, refl}
+use mathlib.Core.Path.{_≡_}
 use mathlib.Core.List.{List}
 use lib.ListN.{length}
 use Rattle.definitions.specs.Chain.{Model, modelOf, jumpMillionths, chainOf}
-use Rattle.definitions.specs.Rules.{Answer, accepted, refused, judgement}
+use Rattle.definitions.specs.Rules.{accepted, judgement}
 use Rattle.definitions.specs.Vectors.{U}
 use Rattle.definitions.specs.Weights.{weightSum}
-use Rattle.definitions.specs.Moment.{weighted, moment, modelLevel, outcome, cellsAfter}
+use Rattle.definitions.specs.Moment.{weighted, moment, modelLevel, cellsAfter}
 use Rattle.definitions.specs.Average.{proper, exactU, average}
-use Rattle.definitions.specs.Promise.{ticks, Close, Promise, Promised}
+use Rattle.definitions.specs.Promise.{ticks, Close, Promise}
 use Rattle.laws.specs.LevelLaws.{level-is, level-max, level-mode}
 use Rattle.laws.specs.VectorLaws.{U-bound}
 use Rattle.laws.specs.VectorError.{vector-near}
 use Rattle.laws.specs.AverageBound.{Setting, LastQuotient, close-at-level, close-past-level}
-use Rattle.laws.specs.MomentLaws.{getD-moment, last-down, outcome-refused, outcome-accepted}
+use Rattle.laws.specs.MomentLaws.{getD-moment, last-down}
 use Rattle.laws.specs.Acceptance.{WithinLimits, AcceptedFile, accepted-file, stochastic}
 
 module _ (m : Model) (g : WithinLimits m) where
@@ -68,11 +68,3 @@ demand3 s cells passed =
           λ i r l low high.
           rw (getD-moment (modelOf s) (modelLevel (modelOf s)) i r cells l low high) (moment-close (modelOf s) (f .limits) r i l);
     }
-
--- and for every file, by what the call answers of it
-pub promised : (s cells : List ℕ) → Promised (outcome s (length cells)) s (cellsAfter (outcome s (length cells)) s cells)
-promised s cells = from (judgement s (length cells)) refl
-  where
-    from : (j : Answer (Unit {0})) → judgement s (length cells) ≡ j → Promised (outcome s (length cells)) s (cellsAfter (outcome s (length cells)) s cells)
-    from (accepted tt) e = rw (outcome-accepted s (length cells) e) (demand3 s cells e)
-    from (refused k) e = rw (outcome-refused s (length cells) k e) tt

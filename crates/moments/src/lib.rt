@@ -110,7 +110,7 @@ fn solve(
     level
 }
 
-// The level and the moments of an accepted file: what it states is read once, row by row.
+// The level and the moments of an accepted file: what it states is read into arrays.
 fn fill(file: &[u8], cells: &mut [u64]) -> u64
     requires { ⌜ AcceptedFile (now file) (length (now cells)) ⌝ }
     ensures { λ n. ⌜ (n ≡ modelLevel (modelOf (now (file .entry)))) × (now (cells .exit) ≡ cellsAfter (accepted n) (now (file .entry)) (now (cells .entry))) ⌝ }

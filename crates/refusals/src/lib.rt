@@ -5,11 +5,11 @@
 ghost use mathlib.Core.Path.{_≡_};
 ghost use mathlib.Core.Bool.{_||_};
 ghost use mathlib.Core.List.{_++_};
-ghost use Prim.Native.Nat.{_*_, _<_, _^_};
+ghost use Prim.Native.Nat.{_*_, _≤_, _<_, _^_};
 ghost use lib.Dec.{eqb, ltb};
 ghost use Rattle.definitions.specs.File.{stateCount, highestMoment, timeField};
 ghost use Rattle.definitions.specs.Chain.{modelOf, uniformRate};
-ghost use Rattle.definitions.specs.Rules.{framing, quantities, jumps, room, firstHeld, judgedBy, judgement, verdict};
+ghost use Rattle.definitions.specs.Rules.{framing, quantities, tooManyJumps, jumps, room, firstHeld, judgedBy, judgement, verdict};
 ghost use Rattle.laws.specs.Acceptance.{Framed};
 ghost use Rattle.refusals.specs.Rated.{ratedAs};
 use definitions::Judgement;
@@ -110,7 +110,7 @@ pub fn judge_model(file: &[u8]) -> Rated
 // Row 12, for one time: E × T is above its limit.
 pub fn too_many_jumps(rate: u64, time: u64) -> bool
     requires { ⌜ (rate < 2 ^ 32) × (time < 2 ^ 32) ⌝ }
-    ensures { λ r. ⌜ r ≡ ltb 256000000 (rate * time) ⌝ }
+    ensures { λ r. ⌜ r ≡ tooManyJumps rate time ⌝ }
 {
     reader::jump_millionths(rate, time) > MOST_JUMPS
 }
@@ -129,7 +129,7 @@ pub fn judge(file: &[u8], cells: usize) -> Judgement
 
 // Rows 12 and 13, for the file's time: the jumps, and the room for the moments.
 fn judge_run(file: &[u8], rate: u64, cells: usize) -> Judgement
-    requires { ⌜ Framed (now file) × (rate < 2 ^ 32) ⌝ }
+    requires { ⌜ Framed (now file) × (highestMoment (now file) ≤ 8) × (rate < 2 ^ 32) ⌝ }
     ensures { λ r. ⌜ verdict r ≡ judgedBy (jumps rate (timeField (now (file .entry))) ++ room (stateCount (now (file .entry)) * highestMoment (now (file .entry))) cells) ⌝ }
 {
     if too_many_jumps(rate, reader::time(file)) {

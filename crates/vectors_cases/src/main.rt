@@ -31,7 +31,7 @@ fn vectors_of(file: &[u8], last: u64)
     }
 }
 
-// Those of an accepted file: what it states is read once, row by row.
+// Those of an accepted file: what it states is read into arrays.
 fn accepted_vectors(file: &[u8], last: u64)
     requires { ⌜ AcceptedFile (now file) 512 × (last ≤ 1024) ⌝ }
 {

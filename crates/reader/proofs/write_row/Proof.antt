@@ -3,9 +3,9 @@ use Prim.Native.Nat.{_+_, _*_, _-_, _≤_}
 use mathlib.Core.Path.{_≡_, _∙_, ap}
 use native.Mathlib.Omega.{arith}
 use Rattle.definitions.specs.File.{stateCount}
-use Rattle.definitions.specs.Chain.{modelOf, chainOf}
+use Rattle.definitions.specs.Chain.{modelOf, chainOf, flatEntry}
 use Rattle.reader.specs.Framed.{row-room, entry-room}
-use Rattle.reader.specs.Rows.{filledTo, chainAt, entry-is, filled-more, row-done}
+use Rattle.reader.specs.Rows.{filledTo, entry-is, filled-more, row-done}
 use Rattle.reader.proofs.write_row.Statement.{statement}
 use Rattle.reader.proofs.write_row.Tie as tie
 
@@ -32,7 +32,7 @@ loop-again c =
     let start = c .before .before .before .before .before .before in
     let file = start .args .file .now in
     let k = start .args .i * 64 + now .j in
-    let entry : c .entry-in .result ≡ chainAt (chainOf (modelOf file)) k =
+    let entry : c .entry-in .result ≡ flatEntry (chainOf (modelOf file)) k =
     rw (c .before .before .before .row-of .ensures, entry-is file (start .args .i) (now .j) (start .args .diagonal) (start .pre .framed) (start .pre .state) (omega arith) (start .pre .stays))
     at (c .entry-in .ensures .0) in
     let next : k + 1 ≡ start .args .i * 64 + (now .j + 1) = omega arith in

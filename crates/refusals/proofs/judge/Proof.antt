@@ -11,7 +11,7 @@ judge-run-requires : tie.Need-judge-run-requires
 judge-run-requires c κs =
     let s = c .before .before .before .before .before .args .file .now in
     let told = rateable s _ (sym (c .before .before .before .judge-model .ensures) ∙ ap ratedAs (c .before .model2 .given .1)) in
-    (told .framed, omega arith)
+    (told .framed, told .highest-max, omega arith)
 
 returns : tie.Need-returns
 returns c =

@@ -1,5 +1,5 @@
 -- `refusals::judge_framing` meets its contract: rows 1 to 6. Past a row's test the rows after it answer. Assumes nothing.
-use Prim.Native.Nat.{ℕ, _+_, _*_, _-_, _≤_}
+use Prim.Native.Nat.{ℕ, _*_, _-_, _≤_}
 use mathlib.Core.Path.{_≡_, _∙_, sym}
 use mathlib.Core.Bool.{false, _||_}
 use mathlib.Core.List.{List}

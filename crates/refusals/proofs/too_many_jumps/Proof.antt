@@ -1,6 +1,5 @@
 -- `refusals::too_many_jumps` meets its contract. Assumes nothing.
 use mathlib.Core.Path.{ap}
-use Prim.Native.Nat.{ℕ}
 use lib.Dec.{ltb}
 use borrow.Author.Needs.{needs}
 use Rattle.refusals.proofs.too_many_jumps.Statement.{statement}

@@ -36,7 +36,7 @@ report-file-spec =
     let M = c .before .before .before .state-count .ensures in
     let R = c .before .before .highest-moment .ensures in
     let kept = c .before .before .before .before .before .before .before .before .calculate .kept .1 .0 in
-    rw (M, R) (record { states = f .framed .states-max; highest = f .framed .highest-max; filled = omega (arith, f .room, kept) }))
+    rw (M, R) (record { states = f .framed .states-max; highest = f .limits .highest-max; filled = omega (arith, f .room, kept) }))
     (λ c.
     let call = c .before .before .before .before .before .before .before in
     let s = now (call .before .before .before .args .file) in
