@@ -46,5 +46,6 @@ pub record Divisible (sums : List ℕ) (S count : ℕ) : Type 0 where
 pub record Summable (z : Sizes) (c f w : List ℕ) (N : ℕ) : Type 0 where
   pub ready : Ready z c f
   pub highest-pos : 1 ≤ z .highest
+  pub highest-max : z .highest ≤ 8
   pub level-max : N < LEVELS
   pub weight-max : (n : ℕ) → n ≤ N → getD w n 0 ≤ GREATEST

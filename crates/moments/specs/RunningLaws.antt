@@ -108,7 +108,7 @@ module _ (z : Sizes) (c f w : List ℕ) (N : ℕ) (g : Summable z c f w N) where
   M-max = g .ready .rewards .states-max
 
   R-max : R ≤ 8
-  R-max = g .ready .rewards .highest-max
+  R-max = g .highest-max
 
   room : (n k : ℕ) → n ≤ N → k < z .states * R → getD (partSums ch w R n) k 0 ≤ 1000 * GREATEST
   room n k h l =

@@ -54,6 +54,7 @@ module _ (z : Sizes) (c f : List ℕ) (X ε : ℕ) (g : Solvable z c f X ε) (w 
       record {
         ready = g .ready;
         highest-pos = g .highest-pos;
+        highest-max = g .highest-max;
         level-max = short;
         weight-max = λ n h. rw (weight-in n h) (weight-max X n);
       }
@@ -62,7 +63,7 @@ module _ (z : Sizes) (c f : List ℕ) (X ε : ℕ) (g : Solvable z c f X ε) (w 
   pub sum-is : (k : ℕ) → k < M * R → getD (partSums ch w R (level X ε + 1)) k 0 ≡ weighted X (λ n. U ch n (k % R + 1) (k / R)) (level X ε)
   unfolding partSum weighted
   sum-is k l =
-      sums-at ch w R (level X ε + 1) k (omega (arith, count-max M R (g .ready .rewards .states-max) (g .ready .rewards .highest-max))) l
+      sums-at ch w R (level X ε + 1) k (omega (arith, count-max M R (g .ready .rewards .states-max) (g .highest-max))) l
       ∙ ap (λ (n : ℕ). partSum ch w R n k) (add-one (level X ε))
       ∙ sum-same (suc (level X ε)) (λ j. term (getD w j 0) (U ch j (k % R + 1) (k / R))) (λ j. term (weight X j) (U ch j (k % R + 1) (k / R)))
       (λ j b. ap (λ (v : ℕ). term v (U ch j (k % R + 1) (k / R))) (weight-in j (omega arith)))
@@ -77,7 +78,7 @@ module _ (z : Sizes) (c f : List ℕ) (X ε : ℕ) (g : Solvable z c f X ε) (w 
   divisible a S count ea es part =
       rw (ea, es)
       (record {
-        count-max = omega (arith, part, count-max M R (g .ready .rewards .states-max) (g .ready .rewards .highest-max));
+        count-max = omega (arith, part, count-max M R (g .ready .rewards .states-max) (g .highest-max));
         total-pos = omega (arith, weightSum-min X (level X ε) (level-mode X ε (g .jumps-max) (g .tolerance-pos)));
         total-max = omega (arith, weightSum-max X (level X ε), short);
         below = λ k l. rw (sum-is k (omega (arith, part))) (sum-max k (omega (arith, part)));
@@ -101,6 +102,7 @@ module _ (m : Model) (g : WithinLimits m) where
       record {
         ready = model-ready m g;
         highest-pos = g .highest-pos;
+        highest-max = g .highest-max;
         jumps-pos = g .jumps-pos;
         jumps-max = g .jumps-max;
         tolerance-pos = g .tolerance-pos;

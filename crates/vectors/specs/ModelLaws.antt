@@ -31,7 +31,6 @@ model-ready m limits =
     record {
       rewards = record {
         states-max = limits .states-max;
-        highest-max = limits .highest-max;
         largest-pos = limits .rewards-pos;
         largest-max = limits .rewards-max;
         reward = range .reward;

@@ -8,10 +8,9 @@ use Rattle.definitions.specs.Chain.{arrays}
 use Rattle.definitions.specs.Vectors.{ONE}
 use Rattle.laws.specs.VectorLaws.{Stochastic}
 
--- f, with the sizes M, R and F, is within document 01's limits: all that U(0,r) reads
+-- f, with the sizes M and F, is within document 01's limits: all that U(0,r) reads
 pub record RewardsReady (z : Sizes) (f : List ℕ) : Type 0 where
   pub states-max : z .states ≤ 64
-  pub highest-max : z .highest ≤ 8
   pub largest-pos : 1 ≤ z .largest
   pub largest-max : z .largest ≤ 1000000
   pub reward : (i : ℕ) → i < z .states → getD f i 0 ≤ z .largest

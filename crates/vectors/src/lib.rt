@@ -94,7 +94,7 @@ fn shares(sizes: Sizes, rewards: &[u64; 64], same: [u64; 64]) -> [u64; 64]
 // The vectors of n = 0: row r is U(0,r) for r = 0 to R, the highest moment; the rows past R are zeros.
 // It reads no chain.
 pub fn first_table(sizes: Sizes, rewards: &[u64; 64]) -> [[u64; 64]; 9]
-    requires { ⌜ RewardsReady sizes (now rewards) ⌝ }
+    requires { ⌜ RewardsReady sizes (now rewards) × (sizes .highest ≤ 8) ⌝ }
     ensures { λ t. ⌜ ((c : List ℕ) → t ≡ tableOf (arrays sizes c (now (rewards .entry))) (sizes .highest) 0) ⌝ }
 {
     let highest = sizes.highest;
@@ -116,7 +116,7 @@ pub fn next_table(
     n: u64,
     table: [[u64; 64]; 9],
 ) -> [[u64; 64]; 9]
-    requires { ⌜ Ready sizes (now chain) (now rewards) × (1 ≤ n) × (n ≤ 1024) ⌝ }
+    requires { ⌜ Ready sizes (now chain) (now rewards) × (sizes .highest ≤ 8) × (1 ≤ n) × (n ≤ 1024) ⌝ }
     requires { ⌜ table ≡ tableOf (arrays sizes (now chain) (now rewards)) (sizes .highest) (n - 1) ⌝ }
     ensures { λ t. ⌜ t ≡ tableOf (arrays sizes (now (chain .entry)) (now (rewards .entry))) (sizes .highest) n ⌝ }
 {

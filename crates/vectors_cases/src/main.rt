@@ -44,7 +44,7 @@ fn accepted_vectors(file: &[u8], last: u64)
 
 // Those of a chain that stands in arrays.
 fn tables(sizes: Sizes, chain: &[u64; 4096], rewards: &[u64; 64], last: u64)
-    requires { ⌜ Ready sizes (now chain) (now rewards) × (last ≤ 1024) ⌝ }
+    requires { ⌜ Ready sizes (now chain) (now rewards) × (sizes .highest ≤ 8) × (last ≤ 1024) ⌝ }
 {
     let mut current = vectors::first_table(sizes, rewards);
     table(sizes, 0, last, current);

@@ -31,7 +31,7 @@ next-table-requires : tie.Need-next-table-requires Inv-loop μ-loop
 next-table-requires c κs =
     let start = c .before .before .before .before .before .before in
     let back : c .before .loop .n + 1 - 1 ≡ c .before .loop .n = omega arith in
-    ((start .pre .ready, omega arith, omega (arith, start .pre .level-max)), rw back (c .before .loop .inv .1))
+    ((start .pre .ready, start .pre .highest-max, omega arith, omega (arith, start .pre .level-max)), rw back (c .before .loop .inv .1))
 
 add-terms-requires-2 : tie.Need-add-terms-requires-2 Inv-loop μ-loop
 add-terms-requires-2 c κs =
@@ -57,7 +57,7 @@ accumulate-spec =
     (tie.spec
     Inv-loop
     μ-loop
-    (λ c κs. c .pre .ready .rewards)
+    (λ c κs. (c .pre .ready .rewards, c .pre .highest-max))
     (λ c. omega arith)
     (λ c κs. tt)
     add-terms-requires

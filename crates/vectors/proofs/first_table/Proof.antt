@@ -40,7 +40,7 @@ loop-holds c = (omega arith, omega arith, λ c'. table-start (held (c .before) c
 shares-requires : tie.Need-shares-requires Inv-loop μ-loop
 shares-requires c κs =
     let start = c .before .before .before .before in
-    (start .pre, vector-ticks (held start []) (omega arith) 0 (c .before .before .loop .r - 1) (row-before (c .before) []) (no-chain (start .pre)))
+    (start .pre .0, vector-ticks (held start []) (omega arith) 0 (c .before .before .loop .r - 1) (row-before (c .before) []) (no-chain (start .pre .0)))
 
 loop-again : tie.Need-loop-again Inv-loop μ-loop
 loop-again c =

@@ -11,11 +11,10 @@ chain-of-requires : tie.Need-chain-of-requires
 chain-of-requires c κs = (search needs, (search needs, ap (λ (z : Sizes). z .rate) (c .before .sizes-of .ensures)))
 
 tables-requires : tie.Need-tables-requires
-tables-requires c κs = (
-  rw (c .before .before .before .before .before .sizes-of .ensures, c .before .before .before .chain-of .ensures, c .before .before .rewards-of .ensures)
-      (model-ready _ (c .before .before .before .before .before .before .before .before .before .pre .0 .limits)),
-  omega arith,
-)
+tables-requires c κs =
+    let sizes = c .before .before .before .before .before .sizes-of .ensures in
+    let limits = c .before .before .before .before .before .before .before .before .before .pre .0 .limits in
+    (rw (sizes, c .before .before .before .chain-of .ensures, c .before .before .rewards-of .ensures) (model-ready _ limits), rw sizes (limits .highest-max), omega arith)
 
 pub accepted-vectors-spec : {M : Type 1} → statement M
 accepted-vectors-spec =

@@ -27,11 +27,11 @@ tables-spec =
     (tie.spec
     Inv-loop
     μ-loop
-    (λ c κs. c .pre .0 .rewards)
+    (λ c κs. (c .pre .0 .rewards, c .pre .1))
     (λ c κs. search needs)
     (λ c. omega arith)
     (λ c. (omega arith, omega arith, c .before .first-table .ensures (c .before .before .args .chain .now)))
-    (λ c κs. ((c .before .before .before .before .pre .0, omega arith, omega arith), c .before .loop .inv .2))
+    (λ c κs. ((c .before .before .before .before .pre .0, omega arith, omega arith, omega arith), c .before .loop .inv .2))
     (λ c κs. search needs)
     (λ c. omega arith)
     (λ c. omega arith)
