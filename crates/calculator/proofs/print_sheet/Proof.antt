@@ -2,17 +2,18 @@
 use mathlib.Core.Path.{sym}
 use lib.Seq.{length-take-le}
 use borrow.Author.Needs.{needs}
-use Rattle.calculator.proofs.main.Statement.{statement}
-use Rattle.calculator.proofs.main.Tie as tie
+use Rattle.calculator.proofs.print_sheet.Statement.{statement}
+use Rattle.calculator.proofs.print_sheet.Tie as tie
 
-pub main-spec : {M : Type 1} → statement M
-main-spec =
+pub print-sheet-spec : {M : Type 1} → statement M
+print-sheet-spec =
     tie.close
     (tie.spec
-    (λ c. search needs)
-    (λ c κs. search needs)
     (λ c κs. search needs)
     (λ c. search needs)
     (λ c. sym (length-take-le _ _ (c .before .report .ensures .0 .inside)))
     (λ c κs. search needs)
+    (λ c. search needs)
+    (λ c κs. search needs)
+    (λ c. search needs)
     (λ c. search needs))
