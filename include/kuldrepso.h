@@ -1,6 +1,6 @@
 /* Moments of the accumulated reward of a repairable system, and their truncation level: document 01's
- * calculation, for C. `rt staticlib kuldrepso` writes the library, target/staticlib/libkuldrepso.a (x86-64);
- * it needs nothing but memcpy and memset. Its contract is proved: crates/kuldrepso/src/lib.rt. */
+ * calculation, for C. `./build kuldrepso` makes the library, libkuldrepso.a (x86-64), and prints its path; it needs
+ * nothing but memcpy and memset. Its contract is proved: crates/kuldrepso/src/lib.rt. */
 #ifndef KULDREPSO_H
 #define KULDREPSO_H
 

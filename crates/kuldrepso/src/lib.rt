@@ -1,4 +1,4 @@
-// The call for C and Rust: `rt staticlib kuldrepso` puts it into a static library, and include/kuldrepso.h declares it.
+// The call for C and Rust: `./build kuldrepso` puts it into a static library, and include/kuldrepso.h declares it.
 //
 // C knows no enum of Rattle's, so the outcome goes out as one plain number.
 ghost use mathlib.Core.Path.{_≡_};

@@ -1,0 +1,31 @@
+/* The library called from C: reads a model file from standard input and prints its sheet, as the program does.
+ *
+ *     cc -I include examples/library/call.c "$(./build kuldrepso)" -o target/call
+ *     target/call < examples/B.model
+ */
+#include <inttypes.h>
+#include <stdio.h>
+
+#include "kuldrepso.h"
+
+int main(void)
+{
+    static uint8_t file[KULDREPSO_MOST_BYTES + 1];
+    static uint64_t cells[KULDREPSO_MOST_CELLS];
+    size_t count = fread(file, 1, sizeof file, stdin);
+    uint64_t answer = kuldrepso_calculate(file, count, cells, KULDREPSO_MOST_CELLS);
+
+    if (answer >= KULDREPSO_REFUSED) {
+        printf("refused %" PRIu64 "\n", answer - KULDREPSO_REFUSED);
+        return 1;
+    }
+    printf("level %" PRIu64 "\n", answer);
+    int states = file[3], highest = file[4];
+    for (int i = 1; i <= states; i++) {
+        for (int r = 1; r <= highest; r++) {
+            uint64_t moment = cells[(i - 1) * highest + (r - 1)];
+            printf("%d %d %" PRIu64 ".%012" PRIu64 "\n", i, r, moment / KULDREPSO_ONE, moment % KULDREPSO_ONE);
+        }
+    }
+    return 0;
+}
