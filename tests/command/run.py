@@ -160,7 +160,7 @@ def rebuilt(copy):
     lines = words.splitlines()
     expect("an edit that the prover accepts", (status, output, lines[-1:]), (2, b"", ["calculator: the input is unreadable"]))
     expect("its first line", lines[0],
-           "build: proving the crates and making calculator, about two minutes where nothing is proved yet")
+           "build: proving the crates and making calculator, a minute or two where nothing is proved yet")
     counts = [re.sub(r": \w+$", "", line) for line in lines[1:-1]]
     expect("its lines, one for each crate", counts, [f"build: {k} of 11" for k in range(1, 12)])
     expect("its last crate", lines[-2], "build: 11 of 11: calculator")
