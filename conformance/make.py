@@ -2,8 +2,8 @@
 """Write the comparison kit, conformance/files: python3 conformance/make.py
 With --check, compare it with the stored one instead.
 
-Models come from fixed seeds and fields, sheets from reference/calculator.py, so that every
-run writes the same files.
+Models come from fixed seeds and fields and from the table of edges.py, sheets from
+reference/calculator.py, so that every run writes the same files.
 """
 
 import os
@@ -13,8 +13,10 @@ import sys
 sys.dont_write_bytecode = True
 HERE = os.path.dirname(os.path.abspath(__file__))
 FILES = os.path.join(HERE, "files")
+sys.path.insert(0, HERE)
 sys.path.insert(0, os.path.join(os.path.dirname(HERE), "reference"))
 
+import edges  # noqa: E402
 import models  # noqa: E402
 import stored  # noqa: E402
 
@@ -99,19 +101,16 @@ def jump_counts():
         yield f"q-millionths-{E * T:09d}-rate-{E}", models.build(1, 2, 3, 1, T, [5, 2], [[E], [E // 3]])
 
 
-def levels():
-    """The level on a knife's edge, and over the range of tolerances."""
-    for X, n, eps in models.LEVEL_EDGES:
-        E, T = models.factors(X)
-        yield f"level-edge-{X:09d}-at-{n}", models.build(1, 2, 1, eps, T, [1, 0], [[E], [E // 2]])
+def tolerances():
+    """One model over the range of tolerances."""
     for power in range(9):
         yield f"level-tolerance-{10**power:09d}", models.build(1, 2, 2, 10**power, 11, [1, 3], [[1_234_567], [89]])
 
 
-def roundings():
-    """The rounding of weights and of the terms of A, where it reaches the printed digits."""
-    for k, (eps, T, f1, f2, out, back) in enumerate(models.ROUNDING_EDGES, 1):
-        yield f"rounding-{k}", models.build(1, 2, 8, eps, T, [f1, f2], [[out], [back]])
+def edge_files():
+    """What conformance/search.py found: a rounding or a border decides the sheet."""
+    for row in edges.EDGES:
+        yield row.name, models.build(**models.edge_fields(row))
 
 
 def kinds():
@@ -127,7 +126,7 @@ def kinds():
 
 
 def all_files():
-    for group in (hand_checked, borders, pairs, moments, states, jump_counts, levels, roundings, kinds):
+    for group in (hand_checked, borders, pairs, moments, states, jump_counts, tolerances, edge_files, kinds):
         yield from group()
 
 
