@@ -9,7 +9,8 @@ from collections import namedtuple
 
 Edge = namedtuple("Edge", "name search holds R epsilon T rewards rates")
 
-# What may hold of a model. A plain name is one of a wrong calculator of mutants.py, which prints another sheet.
+# What may hold of a model. A plain name is that of a wrong calculator of mutants.py, which prints another sheet than
+# the reference; "A against B": the two print different sheets.
 Level = namedtuple("Level", "n miss")        # t at n is its bound plus `miss`: n is the level, or n + 1 where miss > 0
 Half = namedtuple("Half", "state r side")    # the last division leaves half its divisor: 0; a little less: -1; more: 1
 

@@ -52,7 +52,7 @@ def miss_at(X, n, epsilon):
 def edges_at(X, options):
     """For one X and every n: the tolerances next to t * 10^9 / S(n), where t is within reach of its bound."""
     m = X // MILLION
-    w = calculator.weights(X, m + 14 + 6 * int(m**0.5))
+    w = calculator.weights(X, m + (14 + 6 * int(m**0.5) if options.least < MILLION else 6 + 3 * int(m**0.5)))
     first = -(-X // MILLION)
     S = sum(w[:first])
     reach = options.within * BILLION
@@ -63,9 +63,9 @@ def edges_at(X, options):
         if epsilon < MAX_TOLERANCE and (rest <= reach or S - rest < reach + BILLION):
             for tolerance in (epsilon, epsilon + 1):
                 miss = t - S * tolerance // BILLION
-                if tolerance > 0 and abs(miss) <= options.within:
+                if tolerance >= options.least and abs(miss) <= options.within:
                     yield level_row(X, n, tolerance, miss)
-        if epsilon == 0:
+        if epsilon < options.least:
             return
 
 
@@ -152,7 +152,7 @@ def other_sheet(row, options):
     file = built(row)
     if options.wrong.sheet(file) == options.right.sheet(file):
         return []
-    return row.holds + [options.name]
+    return row.holds + [f"{options.name} against {options.against}" if options.against else options.name]
 
 
 FAMILIES = {"level-edges": edges_at, "level-crossings": crossings, "pairs": pairs, "round-numbers": round_numbers,
@@ -190,6 +190,7 @@ def read_options(words):
     parser.add_argument("--to", type=models.positive, default=MAX_X, dest="last", metavar="K", help="the last try")
     parser.add_argument("--step", type=models.positive, default=1)
     parser.add_argument("--within", type=models.positive, default=1, help="how far t may be from its bound")
+    parser.add_argument("--least", type=models.positive, default=1, help="the least tolerance of level-edges")
     parser.add_argument("--finds", type=models.positive, default=4, help="stop after so many")
     parser.add_argument("--seconds", type=models.positive, default=60, help="stop after this time")
     options = parser.parse_args(words)
@@ -214,7 +215,7 @@ def command(options, first, last):
     """The words that repeat the tries from first to last."""
     words = [options.name]
     for word, value, usual in (("--against", options.against, None), ("--family", options.family, None),
-                               ("--seed", options.seed, 1), ("--within", options.within, 1),
+                               ("--seed", options.seed, 1), ("--within", options.within, 1), ("--least", options.least, 1),
                                ("--step", options.step if first < last else 1, 1)):
         if value != usual:
             words += [word, str(value)]
@@ -269,7 +270,9 @@ def holds_of(row, each):
     """Whether one stated thing holds of a row's model."""
     file = built(row)
     if isinstance(each, str):
-        return mutants.calculator(each).sheet(file) != calculator.sheet(file)
+        name, _, other = each.partition(" against ")
+        right = mutants.calculator(other) if other else calculator
+        return mutants.calculator(name).sheet(file) != right.sheet(file)
     if isinstance(each, Half):
         return each in half_ticks(row, None)
     model = calculator.read_model(file)
