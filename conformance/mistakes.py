@@ -90,9 +90,9 @@ def binary64(a, b, c):
 
 
 def digits15(a):
-    """A whole number with 15 digits, the others 0, as a spreadsheet keeps it."""
+    """A whole number rounded to 15 digits, as a spreadsheet shows it."""
     unit = 10 ** max(0, len(str(a)) - 15)
-    return a // unit * unit
+    return nearest(a, unit) * unit
 
 
 def signed(a, bits):
@@ -588,7 +588,6 @@ PROGRAMS = [
             (WRITE, 'sys.stdout.buffer.write(b"\\xef\\xbb\\xbf" + output)')),
     program("UTF-16", "two bytes for each character",
             (WRITE, 'sys.stdout.buffer.write(output.decode().encode("utf-16"))')),
-    program("standard-error", "the sheet on standard error", (WRITE, "sys.stderr.buffer.write(output)")),
     program("signal-at-the-end", "ended by a signal behind the sheet", (WRITE, f"{WRITE}\n        crash()")),
 ]
 

@@ -10,6 +10,8 @@ a program without an end: for every stored model a right calculator prints a she
 status: 0 when two models or more catch each, 1 when not, 2 when the run is not possible.
 """
 
+import contextlib
+import io
 import os
 import sys
 import types
@@ -104,30 +106,67 @@ def catches(entry, files, enough=ENOUGH):
     return tried, caught
 
 
-# --- The program -----------------------------------------------------------------------------------
-
-def behave_as(name):
-    """The named wrong calculator as a program."""
-    if name != RIGHT.name and name not in TABLE:
-        raise ValueError(f"no wrong calculator is named {name}")
-    return module(TABLE.get(name, RIGHT)).main([])
-
+# --- All of them -------------------------------------------------------------------------------------
 
 def judge(entry, files):
     """Prints the entry's line; whether enough models catch it."""
     tried, caught = catches(entry, files)
-    print(f"{entry.name}: {tried} models tried, caught by {' and '.join(caught) or 'none'}", flush=True)
-    return len(caught) >= ENOUGH
+    enough = len(caught) >= ENOUGH
+    line = f"{entry.name}: {tried} models tried, caught by {' and '.join(caught) or 'none'}"
+    print(line if enough else f"{line}: fewer than two ({entry.what})", flush=True)
+    return enough
+
+
+def judge_right(entry, files):
+    """Whether no model catches a calculator that is right; prints a line where one does."""
+    _, caught = catches(entry, files, 1)
+    if caught:
+        print(f"{entry.name}: it prints the right sheets, and yet {caught[0]} catches it ({entry.what})")
+    return not caught
+
+
+def self_test(files):
+    """Whether the trying itself is right: the reference passes, as a module and as a program, and a changed
+    text that changes nothing is caught by none, and would be told."""
+    few = files[::len(files) // 10]
+    same = mistakes.wrong("same", "r W + n V in place of n V + r W", (mistakes.MIX, "(r * w + n * v) // (n + r)"))
+    right = judge_right(RIGHT, files) and judge_right(RIGHT._replace(time_limit=60), few)
+    with contextlib.redirect_stdout(io.StringIO()) as said:
+        told = not judge(same, files[:-1])
+    if not told or "caught by none: fewer than two" not in said.getvalue():
+        print("self-test: a change that changes nothing is taken for a wrong calculator")
+    return right and told
+
+
+def judge_all():
+    """Prints a line for every wrong calculator; 0 where the kit tells each, else 1."""
+    files = kit()
+    cheap = [file for file in files if cost(*file[1:])[0] < 10**6]
+    right = self_test(files)
+    wrong = [entry.name for entry in TABLE.values() if not judge(entry, files)]
+    same = [entry.name for entry in EQUIVALENT if not judge_right(entry, cheap)]
+    print(f"{len(EQUIVALENT) - len(same)} changes that no sheet can show, caught by none")
+    if wrong:
+        print(f"{len(wrong)} of {len(TABLE)} wrong calculators are caught by fewer than two models: {', '.join(wrong)}")
+    else:
+        print(f"{len(TABLE)} wrong calculators, each caught by two models or more")
+    return 0 if right and not wrong and not same else 1
+
+
+def behave_as(name):
+    """Runs the named calculator as a program."""
+    known = {entry.name: entry for entry in (RIGHT, *TABLE.values(), *EQUIVALENT)}
+    if name not in known:
+        raise ValueError(f"no calculator is named {name}")
+    return module(known[name]).main([])
 
 
 def main(arguments):
+    if arguments and (len(arguments) != 2 or arguments[0] != "--as"):
+        print("mutants.py: no argument to try all, or --as NAME to behave as one", file=sys.stderr)
+        return 2
     try:
-        if len(arguments) == 2 and arguments[0] == "--as":
-            return behave_as(arguments[1])
-        files = kit()
-        for entry in TABLE.values():
-            if entry.time_limit is None: judge(entry, files)
-        return 0
+        return behave_as(arguments[1]) if arguments else judge_all()
     except (OSError, ValueError) as error:
         print(f"mutants.py: {error}", file=sys.stderr)
         return 2
