@@ -13,6 +13,7 @@ always gives the same models. What it finds is printed as rows of edges.py.
 import os
 import random
 import sys
+import textwrap
 import time
 from collections import namedtuple
 
@@ -169,7 +170,7 @@ def changed_functions(name):
     """The functions of the reference that a wrong calculator changes."""
     text = mutants.reference_text()
     before = [text[:text.index(old)] for old, _ in mutants.TABLE[name].changes]
-    return {part[part.rindex("\ndef ") + 5:].split("(")[0] for part in before}
+    return {part.rpartition("\ndef ")[2].split("(")[0] for part in before}
 
 
 def family_for(name):
@@ -238,9 +239,10 @@ def shown(row):
     def held(each):
         return f'"{each}"' if isinstance(each, str) else f"{type(each).__name__}{tuple(each)}"
 
-    lines = [f'Edge("{row.name}", "{row.search}",', f'     [{", ".join(map(held, row.holds))}],',
+    parts = [f'Edge("{row.name}", "{row.search}",', f'     [{", ".join(map(held, row.holds))}],',
              f'     {", ".join(map(number, model_of(row)))}),']
-    return "\n".join("    " + line for line in lines)
+    return "\n".join(textwrap.fill(part, 120, initial_indent="    ", subsequent_indent="          ",
+                                   break_on_hyphens=False) for part in parts)
 
 
 def run(options):
@@ -250,7 +252,7 @@ def run(options):
         for row in finds(search, options, k):
             if model_of(row) not in found:
                 found.append(model_of(row))
-                print(shown(row if row.name else row._replace(name=f"{options.name}-{len(found)}")), flush=True)
+                print(shown(row if row.name else row._replace(name=f"rounding-{options.name}-{len(found)}")), flush=True)
         if len(found) >= options.finds or time.monotonic() - start > options.seconds:
             break
     tries = 0 if k is None else (k - options.first) // options.step + 1
