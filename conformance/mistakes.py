@@ -599,7 +599,7 @@ EQUIVALENT = [
           (FROM_Q, "n * MILLION > X and ")),
     wrong("level-from-m-plus-1", "the search begun at m + 1: at n = m the test is reached only where q = m, as above",
           (FROM_Q, "n >= X // MILLION + 1 and ")),
-    wrong("level-at-most-512", "the level at most 512: the largest one known is 358, at q = 256 and tolerance 1",
+    wrong("level-at-most-512", "the level at most 512: there the weight is 0 and t at most 511, its bound at least 10^6",
           (LEVEL_FOUND, "            return min(n, 512)\n")),
     wrong("weights-right-two-divisions", "w(n) X over 1,000,000, down, then over n + 1, down: the same whole number",
           (RIGHT, "w[n] * X // MILLION // (n + 1)")),
