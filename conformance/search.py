@@ -11,7 +11,6 @@ always gives the same models. What it finds is printed as rows of edges.py.
 """
 
 import os
-import random
 import sys
 import textwrap
 import time
@@ -26,9 +25,9 @@ import calculator  # noqa: E402
 import edges  # noqa: E402
 import models  # noqa: E402
 import mutants  # noqa: E402
-from calculator import BILLION, MILLION, ONE  # noqa: E402
-from edges import Edge, Half, Level  # noqa: E402
-from models import MAX_ROW_SUM, MAX_TOLERANCE, MAX_X  # noqa: E402
+from calculator import ONE  # noqa: E402
+from edges import Edge, Half  # noqa: E402
+from families import FAMILIES, level_blocks, level_crossings, level_edges, miss_at, two_states  # noqa: E402
 
 NEAR_HALF = 10**5      # "a little" off the half is at most this part of the divisor
 
@@ -36,86 +35,11 @@ NEAR_HALF = 10**5      # "a little" off the half is at most this part of the div
 Search = namedtuple("Search", "what tries judge")
 
 
-# --- Level: t and its bound ---------------------------------------------------------------------
-
-def level_row(X, n, epsilon, miss):
-    """The two-state model that tries the level for X and a tolerance."""
-    E, T = models.factors(X)
-    return Edge(f"level-edge-{X:09d}-at-{n}", "", [Level(n, miss)], 1, epsilon, T, [1, 0], [[E], [E // 2]])
-
-
-def miss_at(X, n, epsilon):
-    """t less its bound, at n."""
-    w = calculator.weights(X, n)
-    return calculator.tail(w, X, n) - sum(w) * epsilon // BILLION
-
-
-def edges_at(X, options):
-    """For one X and every n: the tolerances next to t * 10^9 / S(n), where t is within reach of its bound."""
-    m = X // MILLION
-    w = calculator.weights(X, m + (14 + 6 * int(m**0.5) if options.least < MILLION else 6 + 3 * int(m**0.5)))
-    first = -(-X // MILLION)
-    S = sum(w[:first])
-    reach = options.within * BILLION
-    for n in range(first, len(w)):
-        S += w[n]
-        t = calculator.tail(w, X, n)
-        epsilon, rest = divmod(t * BILLION, S)      # S * epsilon / 10^9 is t - rest / 10^9
-        if epsilon < MAX_TOLERANCE and (rest <= reach or S - rest < reach + BILLION):
-            for tolerance in (epsilon, epsilon + 1):
-                miss = t - S * tolerance // BILLION
-                if tolerance >= options.least and abs(miss) <= options.within:
-                    yield level_row(X, n, tolerance, miss)
-        if epsilon < options.least:
-            return
-
-
-def crossings(k, options):
-    """For an n and a small tolerance: X about the last one for which t at n keeps to its bound."""
-    rng = random.Random(f"crossing {options.seed} {k}")
-    n = models.log_uniform(rng, 2, 358)
-    epsilon = models.log_uniform(rng, 1, 200)
-    low, high = 1, min(n * MILLION, MAX_X)
-    if miss_at(low, n, epsilon) > 0 or miss_at(high, n, epsilon) <= 0:
-        return
-    while high - low > 1:
-        middle = (low + high) // 2
-        if miss_at(middle, n, epsilon) <= 0:
-            low = middle
-        else:
-            high = middle
-    for X in (low, high):
-        yield level_row(X, n, epsilon, miss_at(X, n, epsilon))
-
+# --- What holds of a row -------------------------------------------------------------------------
 
 def near_bound(row, options):
+    """t at n within reach of its bound, as the level's families give it."""
     return row.holds if abs(row.holds[0].miss) <= options.within else []
-
-
-# --- Two states: roundings that reach the printed digits ------------------------------------------
-
-def pairs(k, options):
-    """Two states, eight moments, any rates: every division leaves something."""
-    rng = random.Random(f"pair {options.seed} {k}")
-    X = models.log_uniform(rng, 1_000_000, 20_000_000)
-    T = rng.randint(-(-X // MAX_ROW_SUM), 20)
-    E = X // T
-    F = rng.randint(100_000, 1_000_000)
-    rewards = rng.sample([F, rng.randint(0, F)], 2)
-    yield Edge("", "", [], 8, rng.choice([1, 1_000, 1_000_000, 100_000_000]), T, rewards, [[E], [rng.randint(0, E)]])
-
-
-def round_numbers(k, options):
-    """Two states, few terms and round numbers: quotients that are whole, or half a tick off."""
-    rng = random.Random(f"round {options.seed} {k}")
-    E = 10_000 * rng.randint(1, 100)
-    rewards = rng.sample(range(0, 11), 2)
-    yield Edge("", "", [], rng.randint(1, 4), 10**rng.randint(5, 8), 1, rewards, [[E], [E * rng.randint(0, 10) // 10]])
-
-
-def either(k, options):
-    """The two families above in turn."""
-    return (pairs if k % 2 else round_numbers)(k, options)
 
 
 def built(row):
@@ -146,8 +70,6 @@ def half_ticks(row, options):
     return result
 
 
-# --- Wrong calculators ------------------------------------------------------------------------------
-
 def other_sheet(row, options):
     """The wrong calculator prints another sheet than the reference, or than the one it is set against."""
     file = built(row)
@@ -156,15 +78,15 @@ def other_sheet(row, options):
     return row.holds + [f"{options.name} against {options.against}" if options.against else options.name]
 
 
-FAMILIES = {"level-edges": edges_at, "level-crossings": crossings, "pairs": pairs, "round-numbers": round_numbers,
-            "either": either}
-
 SEARCHES = {
-    "level-edges": Search("tolerances for which t meets its bound or misses it by one; try K is X = K", edges_at, near_bound),
-    "level-crossings": Search("the same for small tolerances, quickly, over the whole range of q", crossings, near_bound),
-    "half-ticks": Search("last divisions that leave half of their divisor, or a little less or more", either, half_ticks),
+    "level-edges": Search("t meets its bound or misses it by one; try K is X = K", level_edges, near_bound),
+    "level-blocks": Search("the same for q of 1 or more; try K is the X from 1,000 K on", level_blocks, near_bound),
+    "level-crossings": Search("the same for small tolerances; try K is an n with a tolerance", level_crossings, near_bound),
+    "half-ticks": Search("the last division leaves half its divisor, or a little less or more", two_states, half_ticks),
 }
 
+
+# --- Wrong calculators ------------------------------------------------------------------------------
 
 def changed_functions(name):
     """The functions of the reference that a wrong calculator changes."""
@@ -175,7 +97,7 @@ def changed_functions(name):
 
 def family_for(name):
     """The level's family where only the level is changed, else the two families of pairs."""
-    return "level-crossings" if changed_functions(name) <= {"tail", "level"} else "either"
+    return "level-crossings" if changed_functions(name) <= {"tail", "level"} else "two-states"
 
 
 # --- Running a search -----------------------------------------------------------------------------------
@@ -188,10 +110,10 @@ def read_options(words):
     parser.add_argument("--family", choices=sorted(FAMILIES), help="the models to try")
     parser.add_argument("--seed", type=int, default=1)
     parser.add_argument("--from", type=models.positive, default=1, dest="first", metavar="K", help="the first try")
-    parser.add_argument("--to", type=models.positive, default=MAX_X, dest="last", metavar="K", help="the last try")
+    parser.add_argument("--to", type=models.positive, default=models.MAX_X, dest="last", metavar="K", help="the last try")
     parser.add_argument("--step", type=models.positive, default=1)
     parser.add_argument("--within", type=models.positive, default=1, help="how far t may be from its bound")
-    parser.add_argument("--least", type=models.positive, default=1, help="the least tolerance of level-edges")
+    parser.add_argument("--least", type=models.positive, default=1, help="the least tolerance of level-edges and level-blocks")
     parser.add_argument("--finds", type=models.positive, default=4, help="stop after so many")
     parser.add_argument("--seconds", type=models.positive, default=60, help="stop after this time")
     options = parser.parse_args(words)
