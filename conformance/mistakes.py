@@ -644,4 +644,8 @@ EQUIVALENT = [
 ]
 
 GROUPS = (MODEL_FILE, REFUSAL_TABLE, CHAIN, VECTORS, WEIGHT_LIST, LEVEL, MOMENTS, SHEET, PROGRAMS)
-TABLE = {entry.name: entry for group in GROUPS for entry in group}
+TABLE = {}
+for _entry in (entry for group in GROUPS for entry in group):
+    if _entry.name in TABLE:
+        raise ValueError(f"two wrong calculators are named {_entry.name}")
+    TABLE[_entry.name] = _entry
