@@ -132,6 +132,12 @@ def past_32_bits():
         yield f"refused-12-product-{E * T}", models.build(1, 2, 1, 1_000, T, [1, 0], [[E], [1]])
 
 
+def lengths():
+    """File B with a wrong length of which the lower byte is right, or the upper one."""
+    for length in (0x011B, 0xFF1B, 0x001A, 0x00FF):
+        yield f"refused-02-length-{length:04X}", put(B, 0, 2, length)
+
+
 def read_limit():
     """Inputs of 16,399 bytes, one more than the calculator reads."""
     yield "refused-02-16399-bytes-counted", models.relength(models.full_size(64) + bytes(2))
@@ -150,6 +156,12 @@ def most_moments():
     for T in (1, 1_000):
         rng = random.Random(f"most moments {T}")
         yield f"states-64-moments-8-time-{T}", models.build(**models.fields_for(rng, 64, 1_000, T, R=8, eps=10_000_000))
+
+
+def near_rewards():
+    """Rewards that differ by a millionth: from step to step the vectors hardly move, and yet they do."""
+    for T in (100, 250):
+        yield f"near-rewards-time-{T}", models.build(1, 2, 2, 1_000, T, [1_000_000, 999_999], [[1_000_000], [300_000]])
 
 
 def moments():
@@ -208,9 +220,9 @@ def kinds():
 
 
 def all_files():
-    for group in (hand_checked, borders, pairs, least_pairs, one_of_three, past_32_bits, read_limit, byte_values,
-                  most_moments, moments, states, jump_counts, tolerances, figures, edge_files,
-                  kinds):
+    for group in (hand_checked, borders, pairs, least_pairs, one_of_three, past_32_bits, lengths, read_limit,
+                  byte_values, most_moments, near_rewards, moments, states, jump_counts, tolerances, figures,
+                  edge_files, kinds):
         yield from group()
 
 

@@ -55,6 +55,7 @@ CELL = "cells[(i - 1) * model.R + (r - 1)] = "
 FIGURE = "{ticks // ONE}.{ticks % ONE:012d}"
 LINE = '{i} {r} {ticks // ONE}.{ticks % ONE:012d}"'
 ENDED = 'line + "\\n" for line in lines'
+ENCODED = 'encode("ascii")'
 INPUT = "file = file[:READ_LIMIT]"
 READ = "return sys.stdin.buffer.read(READ_LIMIT)"
 
@@ -124,6 +125,12 @@ def overwritten(model, n, r, vector, W):
     return vector
 
 
+def unless_still(before, after):
+    """The vectors before a step where the step moves no number by more than 1,000 ticks, else those after it."""
+    still = all(abs(a - b) <= 1000 for old, new in zip(before, after) for a, b in zip(old, new))
+    return before if still else after
+
+
 def poisson(X, last):
     """The weights as Poisson probabilities in binary64, times 10^15, cut to whole numbers."""
     q = X / 10**6
@@ -190,8 +197,8 @@ def read_pieces(stream, size, most, enough=lambda file: False):
     return file
 
 
-HELPERS = (math.comb, up, nearest, even, binary64, digits15, signed, signed_bytes, by_columns, overwritten, poisson,
-           e_to_q, relation_10, exponent, as_binary64, crash, row_holds, read_pieces)
+HELPERS = (math.comb, up, nearest, even, binary64, digits15, signed, signed_bytes, by_columns, overwritten,
+           unless_still, poisson, e_to_q, relation_10, exponent, as_binary64, crash, row_holds, read_pieces)
 
 
 # --- The model file --------------------------------------------------------------------------------
@@ -206,14 +213,15 @@ FIELDS = {
 
 
 def fields():
-    """Each field low byte first, from bytes with a sign, and as a 32-bit number with a sign."""
+    """Each field low byte first, from bytes with a sign, and in 16 bits or in 32 with a sign."""
     for field, where in FIELDS.items():
         yield wrong(f"{field}-low-byte-first", f"{field} read low byte first",
                     (NUMBER, f'int.from_bytes(file[start:start + size], "little" if {where} else "big")'))
         yield wrong(f"{field}-signed-bytes", f"{field} put together from bytes with a sign",
                     (NUMBER, f"signed_bytes(file[start:start + size]) if {where} else {NUMBER}"))
         if field != "length":
-            yield wrong(f"{field}-signed", f"{field} as 32 bits with a sign",
+            yield wrong(f"{field}-16-bit", f"{field} in 16 bits", (NUMBER, f"{NUMBER} % (2**16 if {where} else 2**32)"))
+            yield wrong(f"{field}-signed", f"{field} in 32 bits with a sign",
                         (NUMBER, f"signed({NUMBER}, 32) if {where} else {NUMBER}"))
 
 
@@ -223,6 +231,8 @@ MODEL_FILE = [
           ("M, R = file[3], file[4]\n    if M", "M, R = signed(file[3], 8), file[4]\n    if M")),
     wrong("moments-signed-byte", "R as a byte with a sign",
           ("M, R = file[3], file[4]\n    if M", "M, R = file[3], signed(file[4], 8)\n    if M")),
+    wrong("tolerance-and-time-exchanged", "time read before the tolerance",
+          (NUMBER, NUMBER.replace("[start:start + size]", "[{5: 9, 9: 5}.get(start, start):][:size]"))),
     wrong("length-counts-itself", "the length taken with its own two bytes", (ROWS[2], "length != len(file)")),
     wrong("rates-by-columns", "rates to state i read in the place of those from it", (RATES, f"by_columns({RATES})")),
     wrong("rates-j-falling", "the rates of a row read from the last j to the first",
@@ -279,6 +289,7 @@ REFUSAL_TABLE = [
     border(1, "below-12", "a file of 12 bytes let through", "len(file) < 12"),
     border(2, "only-too-short", "only bytes missing refused", "length > len(file) - 2"),
     border(2, "only-too-long", "only bytes too many refused", "length < len(file) - 2"),
+    border(2, "8-bit", "the lower bytes of the lengths compared", "length % 256 != (len(file) - 2) % 256"),
     border(3, "only-above-1", "version 0 let through", "file[2] > 1"),
     border(3, "only-0", "versions above 1 let through", "file[2] == 0"),
     border(4, "without-0", "M = 0 let through", "M > 64"),
@@ -327,6 +338,7 @@ REFUSAL_TABLE = [
     border(11, "32-bit", "row sums in 32 bits", "max(sum(row) % 2**32 for row in rates) > 10_000_000"),
     border(11, "32-bit-signed", "row sums in 32 bits with a sign",
            "max(signed(sum(row), 32) for row in rates) > 10_000_000"),
+    border(11, "absorbing", "a state without rates refused", "min(map(sum, rates)) == 0 or " + ROWS[11]),
     border(12, "at-256000000", "a product of 256,000,000 refused", ROWS[12].replace(">", ">=")),
     border(12, "at-256000001", "a product of 256,000,001 let through", ROWS[12].replace("000_000", "000_001")),
     border(12, "32-bit", "E * T in 32 bits", "uniformization_rate(rates) * T % 2**32 > 256_000_000"),
@@ -411,6 +423,8 @@ VECTORS = [
     wrong("mix-n-one-more", "n + 1 in place of n in U(n,r)", (MIX, "((n + 1) * v + r * w) // (n + 1 + r)")),
     wrong("mix-half", "U(n,r) as the plain mean of V and W", (MIX, "(v + w) // 2")),
     wrong("mix-r-1", "U(n,r) with r = 1 for every r", (MIX, "(n * v + w) // (n + 1)")),
+    wrong("vectors-stationary", "vectors kept once no number moves by more than 10^-9",
+          ("next_vectors(model, len(U), U[-1])", "unless_still(U[-1], next_vectors(model, len(U), U[-1]))")),
     wrong("mix-misprinted-binomial", "U(n,r) by binomials, a lower index one off",
           (MIX, "(comb(n + r - 1, r) * v + comb(n + r - 1, r) * w) // comb(n + r, r)")),
 ]
@@ -436,6 +450,8 @@ WEIGHT_LIST = [
     wrong("weights-top-10-to-12", "w(m) = 10^12", ("TOP_WEIGHT = 10**15", "TOP_WEIGHT = 10**12")),
     wrong("weights-top-10-to-18", "w(m) = 10^18", ("TOP_WEIGHT = 10**15", "TOP_WEIGHT = 10**18")),
     wrong("weights-whole-q", "q rounded down in the weights", (WEIGHTS, WEIGHTS + "    X = max(m, 1) * MILLION\n")),
+    wrong("weights-left-truncated", "weights below 10^-12 left of m taken as 0",
+          ("        w[n - 1] = " + LEFT, f"        w[n - 1] = {LEFT} if w[n] >= 1000 else 0")),
     wrong("m-up", "m is q rounded up", (WEIGHTS_M, "m = up(X, MILLION)\n    w = "),
           (TAIL_M, "m = up(X, MILLION)\n    return 1 ")),
     wrong("m-nearest", "m is q rounded to the nearest", (WEIGHTS_M, "m = nearest(X, MILLION)\n    w = "),
@@ -536,9 +552,12 @@ SHEET = [
     figure("comma", "a comma for the point", "{ticks // ONE},{ticks % ONE:012d}"),
     figure("one-printed-below", "1 printed as 0.999999999999", "0.{min(ticks, ONE - 1):012d}"),
     figure("one-printed-as-0", "1 printed as 0.000000000000", "0.{ticks % ONE:012d}"),
+    figure("zero-printed-short", "0 printed without a point", "{f'{ticks // ONE}.{ticks % ONE:012d}' if ticks else 0}"),
+    figure("one-printed-short", "1 printed without a point", "{f'0.{ticks:012d}' if ticks < ONE else 1}"),
     figure("figure-binary64", "the digits taken from the value in binary64",
            "{as_binary64(ticks) // ONE}.{as_binary64(ticks) % ONE:012d}"),
     figure("figure-in-percent", "percent", "{ticks // 10**10}.{ticks % 10**10:010d}"),
+    wrong("states-one-digit", "states printed as one character", (LINE, LINE.replace("{i}", "{chr(48 + i)}"))),
     wrong("states-from-0", "states counted from 0", (LINE, LINE.replace("{i}", "{i - 1}"))),
     wrong("r-from-0", "r counted from 0", (LINE, LINE.replace("{r}", "{r - 1}"))),
     wrong("r-before-state", "r printed before the state", (LINE, LINE.replace("{i} {r}", "{r} {i}"))),
@@ -549,6 +568,11 @@ SHEET = [
           "for r in range(1, R + 1):\n            for i in range(1, M + 1):")),
     wrong("last-line-missing", "the last line left out", (ENDED, ENDED.replace("lines", "(lines[:-1] or lines)"))),
     wrong("blank-line-at-the-end", "a blank line at the end", (ENDED, ENDED.replace("lines", 'lines + [""]'))),
+    wrong("level-two-digits", "the level printed with its last two digits", (FIRST_LINE, 'f"{word} {value % 100}"')),
+    wrong("level-counts-terms", "the count of the terms printed for the level",
+          (FIRST_LINE, """f"{word} {value + (word == 'level')}\"""")),
+    *(wrong(f"output-{size}", f"the sheet cut off after {size} bytes", (ENCODED, f"{ENCODED}[:{size}]"))
+      for size in (4096, 8192, 10_000)),
     wrong("level-in-capitals", "a capital first letter", (FIRST_LINE, 'f"{word.capitalize()} {value}"')),
     wrong("level-with-colon", "a colon in the first line", (FIRST_LINE, 'f"{word}: {value}"')),
     wrong("level-left-out", "the level's line left out", (FIRST_LINE, FIRST_LINE + '][:word == "refused"')),
@@ -599,7 +623,7 @@ EQUIVALENT = [
           (FROM_Q, "n * MILLION > X and ")),
     wrong("level-from-m-plus-1", "the search begun at m + 1: at n = m the test is reached only where q = m, as above",
           (FROM_Q, "n >= X // MILLION + 1 and ")),
-    wrong("level-at-most-512", "the level at most 512: there the weight is 0 and t at most 511, its bound at least 10^6",
+    wrong("level-at-most-512", "the level at most 512: there w(n) is 0 and t at most 511, its bound at least 10^6",
           (LEVEL_FOUND, "            return min(n, 512)\n")),
     wrong("weights-right-two-divisions", "w(n) X over 1,000,000, down, then over n + 1, down: the same whole number",
           (RIGHT, "w[n] * X // MILLION // (n + 1)")),
