@@ -77,7 +77,8 @@ def level_blocks(k, options):
     first = BLOCK * k
     if not MILLION <= first <= MAX_X - BLOCK:
         return
-    nodes = [{n: (t * BILLION << 60) // S for n, t, S in tails(first + BLOCK * j // 4, options.least)} for j in range(5)]
+    nodes = [{n: (t * BILLION << 60) // S for n, t, S in tails(first + BLOCK * j // 4, options.least)}
+             for j in range(5)]
     near = FORETOLD + (options.within + 1) * BILLION / calculator.TOP_WEIGHT
     hits = set()
     for n in set.intersection(*map(set, nodes)):

@@ -192,6 +192,15 @@ def tolerances():
         yield f"level-tolerance-{10**power:09d}", models.build(1, 2, 2, 10**power, 11, [1, 3], [[1_234_567], [89]])
 
 
+def figures():
+    """Figures at the two ends: 0, a tick, others below 10^-4, 1 less a tick, and 1."""
+    yield "figures-no-rates", models.build(1, 4, 3, 1_000, 3_000_000, [700_000, 0, 1, 699_999], [[0, 0, 0]] * 4)
+    yield "figures-small", models.build(1, 2, 8, 1_000, 1, [0, 1_000_000], [[1], [5_000_000]])
+    yield "figures-1-less-a-tick", models.build(1, 2, 3, 1_000, 1, [1_000_000, 999_999], [[1], [0]])
+    yield "figures-1-by-sums", models.build(1, 3, 2, 1_000, 1, [7, 7, 0],
+                                            [[2_000_000, 0], [3_000_000, 0], [500_000, 0]])
+
+
 def edge_files():
     """What conformance/search.py found: a rounding or a border decides the sheet."""
     for row in edges.EDGES:
@@ -212,7 +221,8 @@ def kinds():
 
 def all_files():
     for group in (hand_checked, borders, pairs, least_pairs, one_of_three, past_32_bits, lengths, read_limit,
-                  byte_values, most_moments, near_rewards, moments, states, jump_counts, tolerances, edge_files, kinds):
+                  byte_values, most_moments, near_rewards, moments, states, jump_counts, tolerances, figures,
+                  edge_files, kinds):
         yield from group()
 
 

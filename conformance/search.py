@@ -70,23 +70,33 @@ def half_ticks(row, options):
     return result
 
 
+def printed(module, row):
+    """The sheet that a calculator prints for a row, or None where it ends with an error."""
+    try:
+        return module.sheet(built(row))
+    except Exception:        # whatever stops it, it prints no sheet
+        return None
+
+
 def other_sheet(row, options):
     """The wrong calculator prints another sheet than the reference, or than the one it is set against."""
-    file = built(row)
-    if options.wrong.sheet(file) == options.right.sheet(file):
+    if printed(options.wrong, row) == printed(options.right, row):
         return []
     return row.holds + [f"{options.name} against {options.against}" if options.against else options.name]
 
 
 SEARCHES = {
     "level-edges": Search("t meets its bound or misses it by one; try K is X = K", level_edges, near_bound),
-    "level-blocks": Search("the same for q of 1 or more; try K is the X from 1,000 K on", level_blocks, near_bound),
-    "level-crossings": Search("the same for small tolerances; try K is an n with a tolerance", level_crossings, near_bound),
+    "level-blocks": Search("the same, faster, from q = 1 on; try K is the X from 1,000 K on", level_blocks, near_bound),
+    "level-crossings": Search("the same for a small tolerance and some n, whatever X", level_crossings, near_bound),
     "half-ticks": Search("the last division leaves half its divisor, or a little less or more", two_states, half_ticks),
 }
 
 
 # --- Wrong calculators ------------------------------------------------------------------------------
+
+CALCULATION = {"first_vectors", "row_means", "next_vectors", "weights", "tail", "level", "moment"}
+
 
 def changed_functions(name):
     """The functions of the reference that a wrong calculator changes."""
@@ -110,13 +120,16 @@ def read_options(words):
     parser.add_argument("--family", choices=sorted(FAMILIES), help="the models to try")
     parser.add_argument("--seed", type=int, default=1)
     parser.add_argument("--from", type=models.positive, default=1, dest="first", metavar="K", help="the first try")
-    parser.add_argument("--to", type=models.positive, default=models.MAX_X, dest="last", metavar="K", help="the last try")
+    parser.add_argument("--to", type=models.positive, default=models.MAX_X, dest="last", metavar="K", help="the last")
+    parser.add_argument("--try", type=models.positive, dest="only", metavar="K", help="try K alone")
     parser.add_argument("--step", type=models.positive, default=1)
     parser.add_argument("--within", type=models.positive, default=1, help="how far t may be from its bound")
-    parser.add_argument("--least", type=models.positive, default=1, help="the least tolerance of level-edges and level-blocks")
+    parser.add_argument("--least", type=models.positive, default=1, help="the least tolerance for which t is tried")
     parser.add_argument("--finds", type=models.positive, default=4, help="stop after so many")
     parser.add_argument("--seconds", type=models.positive, default=60, help="stop after this time")
     options = parser.parse_args(words)
+    if options.only:
+        options.first = options.last = options.only
     for name in (options.name, options.against or options.name):
         if name not in mutants.TABLE and (name not in SEARCHES or options.against):
             parser.error(f"no search and no wrong calculator is named {name}")
@@ -137,12 +150,13 @@ def prepared(options):
 def command(options, first, last):
     """The words that repeat the tries from first to last."""
     words = [options.name]
-    for word, value, usual in (("--against", options.against, None), ("--family", options.family, None),
-                               ("--seed", options.seed, 1), ("--within", options.within, 1), ("--least", options.least, 1),
-                               ("--step", options.step if first < last else 1, 1)):
+    for word, value, usual in (("against", options.against, None), ("family", options.family, None),
+                               ("seed", options.seed, 1), ("within", options.within, 1), ("least", options.least, 1)):
         if value != usual:
-            words += [word, str(value)]
-    return " ".join(words + ["--from", str(first), "--to", str(last)])
+            words.append(f"--{word} {value}")
+    if first == last:
+        return " ".join(words + [f"--try {first}"])
+    return " ".join(words + [f"--from {first} --to {last}"] + [f"--step {options.step}"] * (options.step > 1))
 
 
 def finds(search, options, k):
@@ -163,8 +177,8 @@ def shown(row):
 
     parts = [f'Edge("{row.name}", "{row.search}",', f'     [{", ".join(map(held, row.holds))}],',
              f'     {", ".join(map(number, model_of(row)))}),']
-    return "\n".join(textwrap.fill(part, 120, initial_indent="    ", subsequent_indent="          ",
-                                   break_on_hyphens=False) for part in parts)
+    parts[1] = textwrap.fill(parts[1], 116, subsequent_indent="      ", break_on_hyphens=False)
+    return textwrap.indent("\n".join(parts), "    ")
 
 
 def run(options):
@@ -174,7 +188,8 @@ def run(options):
         for row in finds(search, options, k):
             if model_of(row) not in found:
                 found.append(model_of(row))
-                print(shown(row if row.name else row._replace(name=f"rounding-{options.name}-{len(found)}")), flush=True)
+                name = row.name or f"rounding-{options.name}-{len(found)}"
+                print(shown(row._replace(name=name)), flush=True)
         if len(found) >= options.finds or time.monotonic() - start > options.seconds:
             break
     tries = 0 if k is None else (k - options.first) // options.step + 1
@@ -186,64 +201,100 @@ def run(options):
 
 # --- The stored rows ---------------------------------------------------------------------------------------
 
+# Searches that are quick from their first try on, and stored rows that they find.
+QUICK = [
+    ("level-edges --from 2020000 --to 2029999", ["level-edge-002025767-at-4"]),
+    ("level-blocks --from 2000 --to 2040", ["level-edge-002025767-at-4"]),
+    ("level-crossings --to 400", ["level-edge-216543796-at-310", "level-edge-224789569-at-318"]),
+    ("t-nearest --to 130", ["level-edge-005499024-at-23"]),
+    ("half-ticks --to 850", ["half-tick-1", "half-tick-2"]),
+    ("last-division-even --against last-division-nearest --to 850", ["half-tick-1", "half-tick-2"]),
+    ("m-nearest --to 330", ["rounding-m-nearest-1", "rounding-m-nearest-2"]),
+    ("weights-right-nearest --to 430", ["rounding-weights-right-nearest-1"]),
+]
+
+
 def model_of(row):
     return row[Edge._fields.index("R"):]
 
 
 def holds_of(row, each):
     """Whether one stated thing holds of a row's model."""
-    file = built(row)
     if isinstance(each, str):
-        name, _, other = each.partition(" against ")
+        wrong, _, other = each.partition(" against ")
         right = mutants.calculator(other) if other else calculator
-        return mutants.calculator(name).sheet(file) != right.sheet(file)
+        return printed(mutants.calculator(wrong), row) != printed(right, row)
     if isinstance(each, Half):
         return each in half_ticks(row, None)
-    model = calculator.read_model(file)
+    model = calculator.read_model(built(row))
     level = each.n + (each.miss > 0)
     return (miss_at(model.X, each.n, model.epsilon), calculator.level(model.X, model.epsilon)) == (each.miss, level)
 
 
-def found_again(row):
-    """Whether the row's search finds its model."""
-    options = read_options(row.search.split())
+def found_by(words):
+    """The models that a search finds, all its tries run."""
+    options = read_options(words.split())
     search = prepared(options)
-    tries = range(options.first, options.last + 1, options.step)
-    return any(model_of(row) == model_of(found) for k in tries for found in finds(search, options, k))
+    return [model_of(row) for k in range(options.first, options.last + 1, options.step)
+            for row in finds(search, options, k)]
+
+
+def troubles(row):
+    """What is wrong with a row: a line for each thing that does not hold, and for a search that does not find it."""
+    result = [] if row.holds else ["nothing is said to hold of it"]
+    try:
+        result += [f"{each} does not hold" for each in row.holds if not holds_of(row, each)]
+    except KeyError as name:
+        return [f"no wrong calculator is named {name}"]
+    if row.search and model_of(row) not in found_by(row.search):
+        result.append(f"not found by search.py {row.search}")
+    return result
+
+
+def self_test():
+    """A row with another tolerance, and one that states too much, have to be told as wrong."""
+    level, digits = edges.LEVEL_ROWS[0], edges.DIGIT_ROWS[-1]
+    for row in (level._replace(epsilon=level.epsilon + 1), digits._replace(holds=["bound-up"]),
+                digits._replace(holds=[Half(1, 1, 0)]), digits._replace(T=digits.T + 1, holds=["row-mean-up"])):
+        if not troubles(row):
+            yield f"a changed row passes: {row}"
 
 
 def check():
-    """Every row of edges.py: what it states holds, and its search finds it again."""
-    start, wrong, again = time.monotonic(), 0, 0
-    for row in edges.EDGES:
-        trouble = [f"{each} does not hold" for each in row.holds if not holds_of(row, each)]
-        if not row.holds:
-            trouble.append("nothing is said to hold of it")
-        if row.search and not found_again(row):
-            trouble.append("its search does not find it")
-        again += bool(row.search)
-        wrong += bool(trouble)
-        for line in trouble:
-            print(f"{row.name}: {line}")
-    print(f"edges: {len(edges.EDGES)} rows, {again} found again by their searches, {wrong} wrong, "
-          f"{time.monotonic() - start:.1f} seconds")
-    return 1 if wrong else 0
+    """Every row of edges.py: what it states holds, its try gives it; and the quick searches find what is stored."""
+    start, again = time.monotonic(), sum(1 for row in edges.EDGES if row.search)
+    lines = list(self_test()) + [f"{row.name}: {line}" for row in edges.EDGES for line in troubles(row)]
+    rows = {row.name: row for row in edges.EDGES}
+    for words, names in QUICK:
+        found = found_by(words)
+        lines += [f"{name}: not found by search.py {words}" for name in names if model_of(rows[name]) not in found]
+    for line in lines:
+        print(line)
+    print(f"edges: {len(edges.EDGES)} rows, {again} given again by their tries, {len(QUICK)} searches run, "
+          f"{len(lines)} wrong, {time.monotonic() - start:.1f} seconds")
+    return 1 if lines else 0
 
 
 def list_searches():
+    """A line for each search, then for each wrong calculator that changes a step of the calculation."""
     for name, search in SEARCHES.items():
         print(f"{name}: {search.what}")
     for name, entry in mutants.TABLE.items():
-        print(f"{name}: models on which this goes wrong: {entry.what}")
+        if changed_functions(name) <= CALCULATION:
+            print(f"{name}: models that show it: {entry.what}")
     return 0
 
 
 def main(words):
-    if not words:
-        return list_searches()
-    if words == ["--check"]:
-        return check()
-    return run(read_options(words))
+    try:
+        if not words:
+            return list_searches()
+        if words == ["--check"]:
+            return check()
+        return run(read_options(words))
+    except ValueError as error:        # an old text of mistakes.py that is not in the reference
+        print(f"search.py: {error}", file=sys.stderr)
+        return 2
 
 
 if __name__ == "__main__":
