@@ -528,6 +528,10 @@ MOMENTS = [
           (MEAN, "sum(a / model.E * b for a, b in zip(row, vector))"),
           (W, W.replace("f * u // model.F", "f / model.F * u")), (MIX, MIX.replace("//", "/")),
           (TERM, "w[n] * U[n][r][i] / ONE"), (LAST, "int(A * ONE / sum(w[:N + 1]))")),
+    wrong("exact-fractions", "the exact average up to N, cut once",
+          ("moment(w, U, N, i - 1, r)\n", "int(average(model, N, i, r) * ONE)\n")),
+    wrong("variance", "the variance in place of the second moment", ("ticks = cells[(i - 1) * R + (r - 1)]",
+          "ticks = cells[(i - 1) * R + (r - 1)] - (cells[(i - 1) * R]**2 // ONE if r == 2 else 0)")),
     wrong("cells-r-by-r", "the moments in their cells r by r", (CELL, "cells[(r - 1) * model.M + (i - 1)] = ")),
     wrong("cells-eight-each", "eight cells for every state", (CELL, "cells[(i - 1) * 8 + (r - 1)] = ")),
 ]
