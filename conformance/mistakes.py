@@ -16,8 +16,8 @@ from collections import namedtuple
 Wrong = namedtuple("Wrong", "name what changes time_limit")
 
 
-def wrong(name, what, *changes, time_limit=None):
-    return Wrong(name, what, changes, time_limit)
+def wrong(name, what, *changes):
+    return Wrong(name, what, changes, None)
 
 
 def program(name, what, *changes, time_limit=60):
@@ -42,8 +42,7 @@ RIGHT = "w[n] * X // ((n + 1) * MILLION)"
 LEFT = "w[n] * n * MILLION // X"
 TAIL_M = "m = X // MILLION\n    return 1 "
 T_QUOTIENT = "(w[n] + n - m) * X // ((n + 1) * MILLION - X)"
-T = "1 + " + T_QUOTIENT
-SUM_S = "        S += w[n]\n"
+TAIL = "1 + " + T_QUOTIENT
 FROM_Q = "n * MILLION >= X and "
 T_TEST = "tail(w, X, n) <= S * epsilon // BILLION"
 BOUND = "S * epsilon // BILLION"
@@ -459,18 +458,19 @@ WEIGHT_LIST = [
 ]
 
 LEVEL = [
-    wrong("t-with-n-minus-m-plus-1", "t with n - m + 1", (T, T.replace("n - m", "n - m + 1"))),
-    wrong("t-with-n-minus-m-minus-1", "t with n - m - 1", (T, T.replace("n - m", "n - m - 1"))),
-    wrong("t-with-n", "t with n in place of n - m", (T, T.replace("n - m", "n"))),
-    wrong("t-without-n-minus-m", "t without n - m", (T, T.replace("(w[n] + n - m)", "w[n]"))),
-    wrong("t-without-its-1", "t without its 1", (T, T_QUOTIENT)),
-    wrong("t-divisor-with-n", "t's divisor with n in place of n + 1", (T, T.replace("(n + 1)", "n"))),
-    wrong("t-divisor-with-n-plus-2", "t's divisor with n + 2 in place of n + 1", (T, T.replace("n + 1", "n + 2"))),
+    wrong("t-with-n-minus-m-plus-1", "t with n - m + 1", (TAIL, TAIL.replace("n - m", "n - m + 1"))),
+    wrong("t-with-n-minus-m-minus-1", "t with n - m - 1", (TAIL, TAIL.replace("n - m", "n - m - 1"))),
+    wrong("t-with-n", "t with n in place of n - m", (TAIL, TAIL.replace("n - m", "n"))),
+    wrong("t-without-n-minus-m", "t without n - m", (TAIL, TAIL.replace("(w[n] + n - m)", "w[n]"))),
+    wrong("t-without-its-1", "t without its 1", (TAIL, T_QUOTIENT)),
+    wrong("t-divisor-with-n", "t's divisor with n in place of n + 1", (TAIL, TAIL.replace("(n + 1)", "n"))),
+    wrong("t-divisor-with-n-plus-2", "t's divisor with n + 2 in place of n + 1",
+          (TAIL, TAIL.replace("n + 1", "n + 2"))),
     *rounded("t", "t's quotient", T_QUOTIENT, "(w[n] + n - m) * X, (n + 1) * MILLION - X"),
-    wrong("t-binary64", "t's quotient in binary64", (T, "1 + binary64(w[n] + n - m, X, (n + 1) * MILLION - X)")),
-    wrong("t-64-bit", "t's product in 64 bits", (T, T.replace("* X //", "* X % 2**64 //"))),
-    wrong("t-is-the-tail", "t is the sum of the weights right of n", (T, "sum(w[n + 1:])")),
-    wrong("t-is-the-next-weight", "t is the weight right of n", (T, "w[n + 1] if n < LEVEL_LIMIT else 0")),
+    wrong("t-binary64", "t's quotient in binary64", (TAIL, "1 + binary64(w[n] + n - m, X, (n + 1) * MILLION - X)")),
+    wrong("t-64-bit", "t's product in 64 bits", (TAIL, TAIL.replace("* X //", "* X % 2**64 //"))),
+    wrong("t-is-the-tail", "t is the sum of the weights right of n", (TAIL, "sum(w[n + 1:])")),
+    wrong("t-is-the-next-weight", "t is the weight right of n", (TAIL, "w[n + 1] if n < LEVEL_LIMIT else 0")),
     wrong("t-below-its-bound", "t < its bound in place of t <= it", (T_TEST, T_TEST.replace("<=", "<"))),
     *rounded("bound", "S(n) epsilon / 10^9", BOUND, "S * epsilon, BILLION"),
     wrong("bound-binary64", "S(n) epsilon / 10^9 in binary64", (BOUND, "binary64(S, epsilon, BILLION)")),
@@ -528,6 +528,10 @@ MOMENTS = [
           (MEAN, "sum(a / model.E * b for a, b in zip(row, vector))"),
           (W, W.replace("f * u // model.F", "f / model.F * u")), (MIX, MIX.replace("//", "/")),
           (TERM, "w[n] * U[n][r][i] / ONE"), (LAST, "int(A * ONE / sum(w[:N + 1]))")),
+    wrong("exact-fractions", "the exact average up to N, cut once",
+          ("moment(w, U, N, i - 1, r)\n", "int(average(model, N, i, r) * ONE)\n")),
+    wrong("variance", "the variance in place of the second moment", ("ticks = cells[(i - 1) * R + (r - 1)]",
+          "ticks = cells[(i - 1) * R + (r - 1)] - (cells[(i - 1) * R]**2 // ONE if r == 2 else 0)")),
     wrong("cells-r-by-r", "the moments in their cells r by r", (CELL, "cells[(r - 1) * model.M + (i - 1)] = ")),
     wrong("cells-eight-each", "eight cells for every state", (CELL, "cells[(i - 1) * 8 + (r - 1)] = ")),
 ]
@@ -644,4 +648,8 @@ EQUIVALENT = [
 ]
 
 GROUPS = (MODEL_FILE, REFUSAL_TABLE, CHAIN, VECTORS, WEIGHT_LIST, LEVEL, MOMENTS, SHEET, PROGRAMS)
-TABLE = {entry.name: entry for group in GROUPS for entry in group}
+TABLE = {}
+for _entry in (entry for group in GROUPS for entry in group):
+    if _entry.name in TABLE:
+        raise ValueError(f"two wrong calculators are named {_entry.name}")
+    TABLE[_entry.name] = _entry

@@ -13,6 +13,7 @@ status: 0 when two models or more catch each, 1 when not, 2 when the run is not 
 import contextlib
 import io
 import os
+import subprocess
 import sys
 import types
 
@@ -42,6 +43,8 @@ def changed_text(text, entry):
     for old, new in entry.changes:
         if text.count(old) != 1:
             raise ValueError(f"{entry.name}: the reference has it {text.count(old)} times, not once: {old!r}")
+        if old == new:
+            raise ValueError(f"{entry.name}: nothing is changed in {old!r}")
         text = text.replace(old, new)
     return text
 
@@ -51,7 +54,10 @@ def module(entry):
     result = types.ModuleType(entry.name)
     for helper in mistakes.HELPERS:
         setattr(result, helper.__name__, helper)
-    exec(compile(changed_text(reference_text(), entry), entry.name, "exec"), result.__dict__)
+    try:
+        exec(compile(changed_text(reference_text(), entry), entry.name, "exec"), result.__dict__)
+    except SyntaxError as error:
+        raise ValueError(f"{entry.name}: its text is no program: {error}") from error
     return result
 
 
@@ -82,21 +88,27 @@ def called(entry):
     def fails(model, expected):
         try:
             return sheet(model) != expected
-        except Exception:        # whatever stops it, it prints no sheet
+        except (ArithmeticError, LookupError, ValueError):     # its numbers stop it: it prints no sheet
             return True
+        except Exception as error:
+            raise ValueError(f"{entry.name}: its text is wrong, not its numbers: {error}") from error
     return fails
 
 
-def started(entry):
-    """The same for the calculator as a program."""
-    changed_text(reference_text(), entry)
+def started(entry, files):
+    """The same for the calculator as a program; on the first accepted model it has to run without an error."""
+    sample = next(model for _, model, sheet in files if sheet.startswith(b"level "))
     command = [sys.executable, os.path.join(HERE, "mutants.py"), "--as", entry.name]
+    with contextlib.suppress(subprocess.TimeoutExpired):
+        result = subprocess.run(command, input=sample, capture_output=True, timeout=entry.time_limit, check=False)
+        if result.returncode > 0:
+            raise ValueError(f"{entry.name}: as a program it ends with status {result.returncode}")
     return lambda model, expected: bool(runner.check(command, model, expected, entry.time_limit))
 
 
 def catches(entry, files, enough=ENOUGH):
     """How many models were tried, and the names of those that catch the calculator, up to `enough`."""
-    fails = started(entry) if entry.time_limit else called(entry)
+    fails = started(entry, files) if entry.time_limit else called(entry)
     caught = []
     for tried, (name, model, expected) in enumerate(files, 1):
         if fails(model, expected):
@@ -128,7 +140,7 @@ def judge_right(entry, files):
 def self_test(files):
     """Whether the trying itself is right: the reference passes, as a module and as a program, and a changed
     text that changes nothing is caught by none, and would be told."""
-    few = files[::len(files) // 10]
+    few = files[:-1:20]
     same = mistakes.wrong("same", "r W + n V in place of n V + r W", (mistakes.MIX, "(r * w + n * v) // (n + r)"))
     right = judge_right(RIGHT, files) and judge_right(RIGHT._replace(time_limit=60), few)
     with contextlib.redirect_stdout(io.StringIO()) as said:

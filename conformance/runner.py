@@ -82,16 +82,26 @@ def start(command, file):
 
 def end(process):
     """Ends a process that still runs, with those that it started itself."""
-    if process.poll() is None:
-        with contextlib.suppress(OSError):
-            os.killpg(process.pid, signal.SIGKILL) if hasattr(os, "killpg") else process.kill()
+    if process.poll() is not None:
+        return
+    with contextlib.suppress(OSError):
+        if hasattr(os, "killpg"):
+            os.killpg(process.pid, signal.SIGKILL)
+        else:
+            process.kill()
 
 
 def run(command, file, time_limit=TIME_LIMIT):
     """What the command prints for a model, and a word on how the run went wrong (or an empty one)."""
     process, ended = start(command, file)
     late = threading.Event()
-    timer = threading.Timer(time_limit, lambda: (late.set(), end(process)))
+
+    def give_up():
+        if process.poll() is None:
+            late.set()
+            end(process)
+
+    timer = threading.Timer(time_limit, give_up)
     timer.start()
     try:
         output = process.stdout.read(OUTPUT_LIMIT)

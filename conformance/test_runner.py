@@ -2,7 +2,9 @@
 """Tests of the runner: python3 conformance/test_runner.py"""
 
 import os
+import subprocess
 import sys
+import tempfile
 import time
 import unittest
 from unittest import mock
@@ -22,6 +24,7 @@ def python(text):
 
 
 SIZES = python("import os\nwhile True:\n    n = len(os.read(0, 20000))\n    if not n: break\n    print(n)")
+REFERENCE = [sys.executable, "-B", os.path.join(HERE, "..", "reference", "calculator.py")]
 COPY = python("import sys; sys.stdout.buffer.write(sys.stdin.buffer.read())")
 
 
@@ -99,6 +102,43 @@ class Words(unittest.TestCase):
     def test_check(self):
         self.assertEqual(runner.check(COPY, b"abc", b"abc"), "")
         self.assertEqual(runner.check(COPY, b"abc", b"abd"), "line 1, column 3: expected 'd', got 'c'")
+
+
+class Programs(unittest.TestCase):
+    """run.py and compare.py, from another folder."""
+
+    def run_program(self, name, *arguments):
+        with tempfile.TemporaryDirectory() as folder:
+            command = [sys.executable, "-B", os.path.join(HERE, name), *arguments]
+            return subprocess.run(command, cwd=folder, env={**os.environ, "TMPDIR": folder}, capture_output=True,
+                                  text=True, check=False)
+
+    def compare(self, *arguments):
+        return self.run_program(os.path.join("..", "reference", "compare.py"), *arguments)
+
+    def test_run(self):
+        result = self.run_program("run.py", "printf", r"refused 3\r\n")
+        self.assertEqual((result.returncode, result.stderr), (1, ""))
+        self.assertIn("hand-A-version-2.model: line 1, column 10: expected end of line, got carriage return (CRLF)\n",
+                      result.stdout)
+        self.assertRegex(result.stdout, r"\n0 passed, \d+ failed\n\Z")
+
+    def test_compare(self):
+        result = self.compare("--count", "4", "--seed", "2", *REFERENCE)
+        self.assertEqual((result.returncode, result.stderr), (0, ""))
+        self.assertTrue(result.stdout.endswith("compared 4 models, seed 2: all equal\n"))
+
+    def test_compare_different(self):
+        result = self.compare("--count", "4", sys.executable, "-B", os.path.join(HERE, "mutants.py"), "--as", "CRLF")
+        self.assertEqual((result.returncode, result.stderr), (1, ""))
+        self.assertIn(": line 1, column 8: expected end of line, got carriage return (CRLF)\n", result.stdout)
+        self.assertIn("\nmodel 1 of 4 differs, seed 1; it is saved as ", result.stdout)
+
+    def test_no_run(self):
+        for result in (self.run_program("run.py"), self.run_program("run.py", "--wrong"),
+                       self.run_program("run.py", "no-such-command"), self.compare("no-such-command"),
+                       self.compare("--seed", "1", "--fresh", *REFERENCE), self.compare("--program", *REFERENCE)):
+            self.assertEqual((result.returncode, result.stderr.count("\n")), (2, 1))
 
 
 if __name__ == "__main__":
