@@ -110,15 +110,24 @@ def level_crossings(k, options):
 
 # --- Two states: roundings that reach the printed digits -----------------------------------------------
 
-def pairs(k, options):
-    """Two states, eight moments, any rates: every division leaves something."""
-    rng = random.Random(f"pair {options.seed} {k}")
-    X = models.log_uniform(rng, 1_000_000, 20_000_000)
+def pair(rng, least, most):
+    """Two states, eight moments, any rates, X between two limits: every division leaves something."""
+    X = models.log_uniform(rng, least, most)
     T = rng.randint(-(-X // MAX_ROW_SUM), 20)
     E = X // T
     F = rng.randint(100_000, 1_000_000)
     rewards = rng.sample([F, rng.randint(0, F)], 2)
-    yield Edge("", "", [], 8, rng.choice([1, 1_000, 1_000_000, 100_000_000]), T, rewards, [[E], [rng.randint(0, E)]])
+    return Edge("", "", [], 8, rng.choice([1, 1_000, 1_000_000, 100_000_000]), T, rewards, [[E], [rng.randint(0, E)]])
+
+
+def pairs(k, options):
+    """Pairs with q from 1 to 20."""
+    yield pair(random.Random(f"pair {options.seed} {k}"), 1_000_000, 20_000_000)
+
+
+def long_pairs(k, options):
+    """Pairs with q from 20 to 200."""
+    yield pair(random.Random(f"long pair {options.seed} {k}"), 20_000_000, 200_000_000)
 
 
 def round_numbers(k, options):
@@ -130,9 +139,9 @@ def round_numbers(k, options):
 
 
 def two_states(k, options):
-    """The two families above in turn."""
+    """Pairs and round numbers in turn."""
     return (pairs if k % 2 else round_numbers)(k, options)
 
 
 FAMILIES = {"level-edges": level_edges, "level-blocks": level_blocks, "level-crossings": level_crossings,
-            "pairs": pairs, "round-numbers": round_numbers, "two-states": two_states}
+            "pairs": pairs, "long-pairs": long_pairs, "round-numbers": round_numbers, "two-states": two_states}
