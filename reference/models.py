@@ -14,32 +14,19 @@ import os
 import random
 import sys
 
+sys.dont_write_bytecode = True
+sys.path.insert(0, os.path.join(os.path.dirname(os.path.dirname(os.path.abspath(__file__))), "conformance"))
+
+import edges  # noqa: E402
+
 MAX_TOLERANCE = 100_000_000
 MAX_REWARD = 1_000_000
 MAX_ROW_SUM = 10_000_000
 MAX_X = 256_000_000
 MAX_WORD = 2**32 - 1
 
-# X, n and a tolerance for which the level stands on a knife's edge. At n, t is equal to the
-# number it is set against, so that n is the level; or it is 1 more, or the term n - m alone
-# makes it more, so that the level is n + 1.
-LEVEL_EDGES = [
-    (47_075, 2, 16_852), (610_300, 3, 3_718_454), (5_499_024, 23, 5),
-    (95_940, 5, 1), (618_200, 7, 309), (852_452, 10, 2),
-    (5_547_778, 12, 5_171_700), (35_194_131, 55, 787_354), (99_998_931, 158, 34),
-    (149_189_150, 226, 2), (215_828_508, 238, 85_410_958), (235_416_209, 307, 3_622),
-]
-
-# Two-state models (tolerance, time, two rewards, two rates) with R = 8 in which the rounding
-# of the weights, or of the terms of A, or the place of m, reaches the printed digits.
-ROUNDING_EDGES = [
-    (1, 8, 853_121, 805_333, 9_967_855, 4_920_872),
-    (1_000, 54, 695_282, 688_244, 3_555_950, 887_069),
-    (1_000, 1, 978_811, 939_447, 5_876_231, 4_419_620),
-    (1_000_000, 7, 853_620, 808_596, 2_052_425, 1_119_921),
-    (1, 4, 584_208, 546_045, 8_719_866, 4_734_684),
-    (1_000, 2, 665_832, 622_370, 5_901_041, 4_698_429),
-]
+# X, n and a tolerance for which the level stands on a knife's edge at n: the kit's files of this kind.
+LEVEL_EDGES = [(row.rates[0][0] * row.T, row.holds[0].n, row.epsilon) for row in edges.LEVEL_ROWS]
 
 
 # --- Bytes ----------------------------------------------------------------------------------
@@ -63,6 +50,11 @@ def relength(file):
 def valid(M, R, eps, T, rewards, rates):
     """The fields of an accepted file, to be changed one by one and then built."""
     return dict(version=1, M=M, R=R, eps=eps, T=T, rewards=rewards, rates=rates)
+
+
+def edge_fields(row):
+    """The fields of a row of conformance/edges.py."""
+    return valid(len(row.rewards), row.R, row.epsilon, row.T, list(row.rewards), [list(rates) for rates in row.rates])
 
 
 # --- Random parts -----------------------------------------------------------------------------
@@ -123,8 +115,8 @@ def random_time(rng, E):
 
 
 def factors(X):
-    """E and T with E * T = X, E as large as its limit lets it be."""
-    T = next(T for T in range(1, X + 1) if X % T == 0 and X // T <= MAX_ROW_SUM)
+    """E and T with E * T = X: T as small as the limit of E lets it be, or X where it would pass 2,000."""
+    T = next((T for T in range(1, 2_001) if X % T == 0 and X // T <= MAX_ROW_SUM), X)
     return X // T, T
 
 
@@ -260,8 +252,8 @@ def level_edge(rng):
 
 
 def rounding_edge(rng):
-    eps, T, f1, f2, out, back = rng.choice(ROUNDING_EDGES)
-    return valid(2, 8, eps, T, [f1, f2], [[out], [back]])
+    """A model of the kit in which a rounding reaches the printed digits."""
+    return edge_fields(rng.choice(edges.DIGIT_ROWS))
 
 
 def sparse(rng):

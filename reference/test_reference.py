@@ -199,10 +199,8 @@ class Level(unittest.TestCase):
     def test_edges(self):
         for X, n, epsilon in models.LEVEL_EDGES:
             w = calculator.weights(X, n)
-            t, bound = calculator.tail(w, X, n), sum(w) * epsilon // 10**9
-            without_steps = 1 + w[n] * X // ((n + 1) * 10**6 - X)       # t without n - m
-            self.assertEqual(calculator.level(X, epsilon), n if t == bound else n + 1)
-            self.assertTrue(t in (bound, bound + 1) or without_steps <= bound < t)
+            keeps = calculator.tail(w, X, n) <= sum(w) * epsilon // 10**9
+            self.assertEqual(calculator.level(X, epsilon), n if keeps else n + 1)
 
     def test_heaviest(self):
         self.assertEqual(calculator.level(256_000_000, 1), 358)

@@ -1,0 +1,655 @@
+"""The table of wrong calculators for mutants.py: each the reference with one thing changed.
+
+An entry names the mistake, says it in a line and gives its changes in the text of
+reference/calculator.py: pairs of an old text, which stands there exactly once, and a new one.
+TABLE holds the mistakes; EQUIVALENT the changes that no sheet can show, each with the reason.
+"""
+
+import math
+import os
+import signal
+import sys
+from collections import namedtuple
+
+# time_limit: None for a calculator that is called as a module; where the mistake is in reading
+# or writing, the seconds that the calculator gets as a program, one model after the other.
+Wrong = namedtuple("Wrong", "name what changes time_limit")
+
+
+def wrong(name, what, *changes):
+    return Wrong(name, what, changes, None)
+
+
+def program(name, what, *changes, time_limit=60):
+    return Wrong(name, what, changes, time_limit)
+
+
+# --- Parts of the reference that several entries change ------------------------------------------
+
+NUMBER = 'int.from_bytes(file[start:start + size], "big")'
+RATES = "[[number(file, first + i * row_size + 4 * k, 4) for k in range(M - 1)] for i in range(M)]"
+LARGEST_SUM = "max(sum(row) for row in rates) or 1"
+ROW_E = "row[:i] + [E - sum(row)] + row[i:]"
+FIRST = "f * u // model.F for f, u in zip(model.f, vectors[-1])"
+MEAN = "sum(map(mul, row, vector)) // model.E"
+MEANS = "V = row_means(model, before[r])"
+W = "f * u // model.F for f, u in zip(model.f, vectors[r - 1])"
+MIX = "(n * v + r * w) // (n + r)"
+MIXED = "[(n * v + r * w) // (n + r) for v, w in zip(V, W)]"
+WEIGHTS = "    w[m] = TOP_WEIGHT\n"
+WEIGHTS_M = "m = X // MILLION\n    w = "
+RIGHT = "w[n] * X // ((n + 1) * MILLION)"
+LEFT = "w[n] * n * MILLION // X"
+TAIL_M = "m = X // MILLION\n    return 1 "
+T_QUOTIENT = "(w[n] + n - m) * X // ((n + 1) * MILLION - X)"
+TAIL = "1 + " + T_QUOTIENT
+FROM_Q = "n * MILLION >= X and "
+T_TEST = "tail(w, X, n) <= S * epsilon // BILLION"
+BOUND = "S * epsilon // BILLION"
+LEVEL_FOUND = "            return n\n"
+A = "sum(w[n] * U[n][r][i] // ONE for n in range(N + 1))"
+TERM = "w[n] * U[n][r][i] // ONE"
+LAST = "A * ONE // sum(w[:N + 1])"
+CELL = "cells[(i - 1) * model.R + (r - 1)] = "
+FIGURE = "{ticks // ONE}.{ticks % ONE:012d}"
+LINE = '{i} {r} {ticks // ONE}.{ticks % ONE:012d}"'
+ENDED = 'line + "\\n" for line in lines'
+ENCODED = 'encode("ascii")'
+INPUT = "file = file[:READ_LIMIT]"
+READ = "return sys.stdin.buffer.read(READ_LIMIT)"
+
+# The refusal table, row by row.
+ROWS = {
+    1: "len(file) < 13", 2: "length != len(file) - 2", 3: "file[2] != 1", 4: "M == 0 or M > 64", 5: "R == 0 or R > 8",
+    6: "length != 4 * M * M + 11", 7: "epsilon == 0 or epsilon > 100_000_000", 8: "T == 0", 9: "max(f) > 1_000_000",
+    10: "max(f) == 0", 11: "max(sum(row) for row in rates) > 10_000_000",
+    12: "uniformization_rate(rates) * T > 256_000_000", 13: "cells < M * R",
+}
+
+
+# --- Helpers for the new texts -----------------------------------------------------------------------
+
+def up(a, b):
+    """a / b rounded up."""
+    return -(-a // b)
+
+
+def nearest(a, b):
+    """a / b rounded to the nearest, a half going up."""
+    return (2 * a + b) // (2 * b)
+
+
+def even(a, b):
+    """a / b rounded to the nearest, a half going to the even one."""
+    return a // b + (2 * (a % b) + (a // b) % 2 > b)
+
+
+def binary64(a, b, c):
+    """a * b / c in binary64, cut to a whole number."""
+    return int(float(a) * float(b) / float(c))
+
+
+def digits15(a):
+    """A whole number rounded to 15 digits, as a spreadsheet shows it."""
+    unit = 10 ** max(0, len(str(a)) - 15)
+    return nearest(a, unit) * unit
+
+
+def signed(a, bits):
+    """The lowest bits of a whole number, taken with a sign."""
+    return (a + 2**(bits - 1)) % 2**bits - 2**(bits - 1)
+
+
+def signed_bytes(part):
+    """A big-endian number put together from bytes with a sign, as in b[0] << 8 | b[1]."""
+    result = 0
+    for byte in part:
+        result = result << 8 | signed(byte, 8)
+    return result
+
+
+def by_columns(rates):
+    """The rates to state i in the place of those from it."""
+    M = len(rates)
+    full = [row[:i] + [0] + row[i:] for i, row in enumerate(rates)]
+    return [[full[j][i] for j in range(M) if j != i] for i in range(M)]
+
+
+def overwritten(model, n, r, vector, W):
+    """U(n,r) written over U(n-1,r) state by state, so that a row mean reads both."""
+    vector = list(vector)
+    for i, row in enumerate(model.c):
+        V = sum(c * u for c, u in zip(row, vector)) // model.E
+        vector[i] = (n * V + r * W[i]) // (n + r)
+    return vector
+
+
+def unless_still(before, after):
+    """The vectors before a step where the step moves no number by more than 1,000 ticks, else those after it."""
+    still = all(abs(a - b) <= 1000 for old, new in zip(before, after) for a, b in zip(old, new))
+    return before if still else after
+
+
+def poisson(X, last):
+    """The weights as Poisson probabilities in binary64, times 10^15, cut to whole numbers."""
+    q = X / 10**6
+    return [int(1e15 * math.exp(n * math.log(q) - q - math.lgamma(n + 1))) for n in range(last + 1)]
+
+
+def e_to_q(X):
+    """e^q on the scale of the weights, in which q^m / m! is 10^15."""
+    q = X / 10**6
+    m = X // 10**6
+    return int(1e15 * math.exp(q - m * math.log(q) + math.lgamma(m + 1)))
+
+
+def relation_10(X, epsilon):
+    """The least n whose Poisson probabilities up to n reach 1 - tolerance, in binary64."""
+    q, total = X / 10**6, 0.0
+    for n in range(1025):
+        total += math.exp(n * math.log(q) - q - math.lgamma(n + 1))
+        if total >= 1 - epsilon / 10**9:
+            return n
+    return 1024
+
+
+def exponent(ticks):
+    """A figure as many languages print it: below 10^-4 with an exponent."""
+    return f"{ticks / 10**12:.12f}" if ticks >= 10**8 or ticks == 0 else f"{ticks / 10**12:.12e}"
+
+
+def row_holds(row, file):
+    """Whether a row of the refusal table holds, whatever rows before it do."""
+    def number(start, size):
+        return int.from_bytes(file[start:start + size], "big")
+    M, R, epsilon, T = number(3, 1), number(4, 1), number(5, 4), number(9, 4)
+    f = [number(13 + 4 * i, 4) for i in range(M)]
+    rates = [number(start, 4) for start in range(13 + 4 * M, len(file), 4)]
+    sums = [sum(rates[i * (M - 1):(i + 1) * (M - 1)]) for i in range(M)]
+    return {
+        2: number(0, 2) != len(file) - 2, 3: number(2, 1) != 1, 4: not 1 <= M <= 64, 5: not 1 <= R <= 8,
+        6: number(0, 2) != 4 * M * M + 11, 7: not 1 <= epsilon <= 100_000_000, 8: T == 0,
+        9: any(a > 1_000_000 for a in f), 10: not any(f), 11: any(a > 10_000_000 for a in sums),
+        12: (max(sums, default=0) or 1) * T > 256_000_000,
+    }[row]
+
+
+def as_binary64(ticks):
+    """The ticks of a figure taken from its value in binary64, cut to a whole number."""
+    return int(ticks / 10**12 * 10**12)
+
+
+def crash():
+    """Ends this process by a signal, as an access outside its memory does."""
+    sys.stdout.flush()
+    os.kill(os.getpid(), signal.SIGSEGV)
+
+
+def read_pieces(stream, size, most, enough=lambda file: False):
+    """Reads pieces of at most `size` bytes, up to `most` bytes, until one is empty or `enough` holds."""
+    file = b""
+    while len(file) < most and not enough(file):
+        piece = stream.read(min(size, most - len(file)))
+        if not piece:
+            break
+        file += piece
+    return file
+
+
+HELPERS = (math.comb, up, nearest, even, binary64, digits15, signed, signed_bytes, by_columns, overwritten,
+           unless_still, poisson, e_to_q, relation_10, exponent, as_binary64, crash, row_holds, read_pieces)
+
+
+# --- The model file --------------------------------------------------------------------------------
+
+FIELDS = {
+    "length": "start == 0",
+    "tolerance": "start == 5",
+    "time": "start == 9",
+    "rewards": "13 <= start < 13 + 4 * file[3]",
+    "rates": "start >= 13 + 4 * file[3]",
+}
+
+
+def fields():
+    """Each field low byte first, from bytes with a sign, and in 16 bits or in 32 with a sign."""
+    for field, where in FIELDS.items():
+        yield wrong(f"{field}-low-byte-first", f"{field} read low byte first",
+                    (NUMBER, f'int.from_bytes(file[start:start + size], "little" if {where} else "big")'))
+        yield wrong(f"{field}-signed-bytes", f"{field} put together from bytes with a sign",
+                    (NUMBER, f"signed_bytes(file[start:start + size]) if {where} else {NUMBER}"))
+        if field != "length":
+            yield wrong(f"{field}-16-bit", f"{field} in 16 bits", (NUMBER, f"{NUMBER} % (2**16 if {where} else 2**32)"))
+            yield wrong(f"{field}-signed", f"{field} in 32 bits with a sign",
+                        (NUMBER, f"signed({NUMBER}, 32) if {where} else {NUMBER}"))
+
+
+MODEL_FILE = [
+    *fields(),
+    wrong("states-signed-byte", "M as a byte with a sign",
+          ("M, R = file[3], file[4]\n    if M", "M, R = signed(file[3], 8), file[4]\n    if M")),
+    wrong("moments-signed-byte", "R as a byte with a sign",
+          ("M, R = file[3], file[4]\n    if M", "M, R = file[3], signed(file[4], 8)\n    if M")),
+    wrong("tolerance-and-time-exchanged", "time read before the tolerance",
+          (NUMBER, NUMBER.replace("[start:start + size]", "[{5: 9, 9: 5}.get(start, start):][:size]"))),
+    wrong("length-counts-itself", "the length taken with its own two bytes", (ROWS[2], "length != len(file)")),
+    wrong("rates-by-columns", "rates to state i read in the place of those from it", (RATES, f"by_columns({RATES})")),
+    wrong("rates-j-falling", "the rates of a row read from the last j to the first",
+          (RATES, RATES.replace("range(M - 1)", "reversed(range(M - 1))"))),
+    wrong("rates-i-falling", "the rows of rates read from the last state to the first",
+          (RATES, RATES.replace("in range(M)", "in reversed(range(M))"))),
+    wrong("rates-with-diagonal", "a diagonal read from the file", ("row_size = 4 * (M - 1)", "row_size = 4 * M"),
+          ("first + i * row_size + 4 * k", "first + i * row_size + 4 * (k + (k >= i))")),
+    wrong("rewards-after-rates", "rewards read behind the rates", ("number(file, 13 + 4 * i, 4)",
+          "number(file, 13 + 4 * M * (M - 1) + 4 * i, 4)"), ("first = 13 + 4 * M", "first = 13")),
+    *(wrong(f"read-limit-{limit}", f"{what} bytes read", ("READ_LIMIT = 16398", f"READ_LIMIT = {limit}"))
+      for limit, what in ((4096, "at most 4,096"), (16384, "at most 16,384"), (16397, "at most 16,397"),
+                          (16399, "at most 16,399"), (10**9, "all"))),
+    wrong("text-mode-1A", "input in text mode, ended by byte 1A", (INPUT, INPUT + '.split(b"\\x1a")[0]')),
+    wrong("text-mode-0D-0A", "input in text mode, 0D 0A read as 0A", (INPUT, INPUT + '.replace(b"\\r\\n", b"\\n")')),
+    wrong("text-mode-0D", "input in text mode, 0D read as 0A", (INPUT, INPUT + '.replace(b"\\r", b"\\n")')),
+    wrong("one-line-read", "input read up to the first byte 0A", (INPUT, INPUT + '.split(b"\\n")[0]')),
+    wrong("last-line-end-cut", "a last byte 0A of the input cut off", (INPUT, INPUT + '.removesuffix(b"\\n")')),
+    wrong("white-space-cut", "white space at both ends of the input cut off", (INPUT, INPUT + ".strip()")),
+    wrong("text-7-bit", "the highest bit of every byte lost", (INPUT, INPUT + "; file = bytes(b & 127 for b in file)")),
+]
+
+
+# --- The refusal table --------------------------------------------------------------------------------
+
+def border(row, name, what, new):
+    return wrong(f"row-{row:02d}-{name}", f"row {row}: {what}", (f"if {ROWS[row]}:", f"if {new}:"))
+
+
+def left_out(row):
+    return border(row, "left-out", "not tested", "False")
+
+
+def earlier(late, early):
+    """Row `late` tested before row `early`."""
+    return wrong(f"row-{late:02d}-before-row-{early:02d}", f"row {late} tested before row {early}",
+                 (f"    if {ROWS[early]}:",
+                  f"    if row_holds({late}, file):\n        return {late}\n    if {ROWS[early]}:"))
+
+
+def tested_last(row):
+    """Row `row` tested after row 12."""
+    return wrong(f"row-{row:02d}-last", f"row {row} tested after row 12", (f"if {ROWS[row]}:", "if False:"),
+                 (f"    if {ROWS[13]}:", f"    if row_holds({row}, file):\n        return {row}\n    if {ROWS[13]}:"))
+
+
+REFUSAL_TABLE = [
+    *map(left_out, range(1, 13)),
+    *(earlier(row, row - 1) for row in range(2, 13) if row != 10),
+    *(earlier(row, row - 2) for row in range(3, 13)),
+    *(earlier(row, 2) for row in range(5, 13)),
+    *map(tested_last, range(2, 11)),
+    border(1, "at-13", "a file of 13 bytes refused", "len(file) <= 13"),
+    border(1, "below-12", "a file of 12 bytes let through", "len(file) < 12"),
+    border(2, "only-too-short", "only bytes missing refused", "length > len(file) - 2"),
+    border(2, "only-too-long", "only bytes too many refused", "length < len(file) - 2"),
+    border(2, "8-bit", "the lower bytes of the lengths compared", "length % 256 != (len(file) - 2) % 256"),
+    border(3, "only-above-1", "version 0 let through", "file[2] > 1"),
+    border(3, "only-0", "versions above 1 let through", "file[2] == 0"),
+    border(4, "without-0", "M = 0 let through", "M > 64"),
+    border(4, "without-limit", "no upper limit", "M == 0"),
+    border(4, "at-64", "M = 64 refused", "M == 0 or M >= 64"),
+    border(4, "at-65", "M = 65 let through", "M == 0 or M > 65"),
+    border(4, "at-1", "M = 1 refused", "M <= 1 or M > 64"),
+    border(5, "without-0", "R = 0 let through", "R > 8"),
+    border(5, "without-limit", "no upper limit", "R == 0"),
+    border(5, "at-8", "R = 8 refused", "R == 0 or R >= 8"),
+    border(5, "at-9", "R = 9 let through", "R == 0 or R > 9"),
+    border(5, "at-1", "R = 1 refused", "R <= 1 or R > 8"),
+    border(6, "only-too-short", "only a length too small refused", "length < 4 * M * M + 11"),
+    border(6, "only-too-long", "only a length too large refused", "length > 4 * M * M + 11"),
+    border(6, "one-less", "the length 4 M M + 10", "length != 4 * M * M + 10"),
+    border(6, "8-bit", "4 M M + 11 in 8 bits", "length != (4 * M * M + 11) % 2**8"),
+    border(6, "with-diagonal", "room for M rates in a row", "length != 4 * M * M + 4 * M + 11"),
+    border(7, "without-0", "tolerance 0 let through", "epsilon > 100_000_000"),
+    border(7, "without-limit", "no upper limit", "epsilon == 0"),
+    border(7, "at-100000000", "tolerance 100,000,000 refused", "epsilon == 0 or epsilon >= 100_000_000"),
+    border(7, "at-100000001", "tolerance 100,000,001 let through", "epsilon == 0 or epsilon > 100_000_001"),
+    border(7, "at-1", "tolerance 1 refused", "epsilon <= 1 or epsilon > 100_000_000"),
+    border(7, "limit-10-to-9", "tolerances up to 10^9", "epsilon == 0 or epsilon > 10**9"),
+    border(8, "at-1", "time 1 refused", "T <= 1"),
+    border(9, "at-1000000", "reward 1,000,000 refused", "max(f) >= 1_000_000"),
+    border(9, "at-1000001", "reward 1,000,001 let through", "max(f) > 1_000_001"),
+    border(9, "first-state-only", "tested on the first state only", "f[0] > 1_000_000"),
+    border(9, "last-state-only", "tested on the last state only", "f[-1] > 1_000_000"),
+    border(9, "not-first-state", "not tested on the first state", "max(f[1:], default=0) > 1_000_000"),
+    border(9, "not-last-state", "not tested on the last state", "max(f[:-1], default=0) > 1_000_000"),
+    border(9, "on-the-sum", "tested on the sum of all rewards", "sum(f) > 1_000_000"),
+    border(10, "at-1", "a largest reward of 1 refused", "max(f) <= 1"),
+    border(10, "first-state-only", "tested on the first state only", "f[0] == 0"),
+    border(10, "last-state-only", "tested on the last state only", "f[-1] == 0"),
+    border(10, "not-first-state", "not tested on the first state", "max(f[1:], default=1) == 0"),
+    border(10, "not-last-state", "not tested on the last state", "max(f[:-1], default=1) == 0"),
+    border(10, "one-reward-0", "one reward 0 refused", "min(f) == 0"),
+    border(11, "at-10000000", "a row sum of 10,000,000 refused", ROWS[11].replace(">", ">=")),
+    border(11, "at-10000001", "a row sum of 10,000,001 let through", ROWS[11].replace("000_000", "000_001")),
+    border(11, "first-row-only", "tested on the first row only", "sum(rates[0]) > 10_000_000"),
+    border(11, "last-row-only", "tested on the last row only", "sum(rates[-1]) > 10_000_000"),
+    border(11, "not-first-row", "not tested on the first row", "max(map(sum, rates[1:]), default=0) > 10_000_000"),
+    border(11, "not-last-row", "not tested on the last row", "max(map(sum, rates[:-1]), default=0) > 10_000_000"),
+    border(11, "each-rate", "tested on each rate alone", "max(max(row, default=0) for row in rates) > 10_000_000"),
+    border(11, "all-rates", "tested on the sum of all rates", "sum(map(sum, rates)) > 10_000_000"),
+    border(11, "32-bit", "row sums in 32 bits", "max(sum(row) % 2**32 for row in rates) > 10_000_000"),
+    border(11, "32-bit-signed", "row sums in 32 bits with a sign",
+           "max(signed(sum(row), 32) for row in rates) > 10_000_000"),
+    border(11, "absorbing", "a state without rates refused", "min(map(sum, rates)) == 0 or " + ROWS[11]),
+    border(12, "at-256000000", "a product of 256,000,000 refused", ROWS[12].replace(">", ">=")),
+    border(12, "at-256000001", "a product of 256,000,001 let through", ROWS[12].replace("000_000", "000_001")),
+    border(12, "32-bit", "E * T in 32 bits", "uniformization_rate(rates) * T % 2**32 > 256_000_000"),
+    border(12, "32-bit-signed", "E * T in 32 bits with a sign",
+           "signed(uniformization_rate(rates) * T, 32) > 256_000_000"),
+    border(12, "whole-q", "q rounded down, above 256", "uniformization_rate(rates) * T // MILLION > 256"),
+    border(12, "without-rates", "not tested where all rates are 0", "max(map(sum, rates)) * T > 256_000_000"),
+    border(13, "at-the-last-cell", "512 cells taken to be too few for 512 moments", "cells <= M * R"),
+]
+
+
+# --- Chain and reward vectors -------------------------------------------------------------------------
+
+def rounded(name, what, old, parts):
+    """A quotient rounded up and to the nearest in place of down."""
+    quotient = old.split(" for ")[0]
+    for helper, how in (("up", "up"), ("nearest", "to the nearest")):
+        yield wrong(f"{name}-{helper}", f"{what} rounded {how}", (old, old.replace(quotient, f"{helper}({parts})", 1)))
+
+
+CHAIN = [
+    wrong("E-sum-of-all-rates", "E is the sum of all rates", (LARGEST_SUM, "sum(map(sum, rates)) or 1")),
+    wrong("E-first-row", "E is the first row's sum", (LARGEST_SUM, "sum(rates[0]) or 1")),
+    wrong("E-last-row", "E is the last row's sum", (LARGEST_SUM, "sum(rates[-1]) or 1")),
+    wrong("E-largest-rate", "E is the largest rate", (LARGEST_SUM, "max(max(row, default=0) for row in rates) or 1")),
+    wrong("E-one-more", "E is one more than the largest row sum", (LARGEST_SUM, "max(map(sum, rates)) + 1")),
+    wrong("E-0-without-rates", "E is 0 where all rates are 0", (LARGEST_SUM, "max(map(sum, rates))")),
+    wrong("E-million-without-rates", "E is 1,000,000 where all rates are 0",
+          (LARGEST_SUM, "max(map(sum, rates)) or 10**6")),
+    wrong("E-of-states-without-reward", "E is the largest row sum of the states without reward",
+          ("    E = uniformization_rate(rates)",
+           "    E = uniformization_rate([row for row, g in zip(rates, f) if g == 0] or [[]])")),
+    wrong("diagonal-0", "c(i,i) is 0", (ROW_E, "row[:i] + [0] + row[i:]")),
+    wrong("diagonal-E", "c(i,i) is E", (ROW_E, "row[:i] + [E] + row[i:]")),
+    wrong("diagonal-negative", "c(i,i) is less the row's sum", (ROW_E, "row[:i] + [-sum(row)] + row[i:]")),
+    wrong("diagonal-last", "c(i,i) put at the end of its row", (ROW_E, "row + [E - sum(row)]")),
+    wrong("chain-transposed", "c(j,i) in place of c(i,j)",
+          (MEAN + " for row in model.c", MEAN + " for row in zip(*model.c)")),
+    wrong("F-first-state", "F is the first state's reward", ("f, max(f), c", "f, f[0], c")),
+    wrong("F-last-state", "F is the last state's reward", ("f, max(f), c", "f, f[-1], c")),
+    wrong("F-sum", "F is the sum of the rewards", ("f, max(f), c", "f, sum(f), c")),
+    wrong("F-limit", "F is 1,000,000", ("f, max(f), c", "f, 10**6, c")),
+    wrong("F-1", "moments not divided by F^r", ("f, max(f), c", "f, 1, c")),
+]
+
+VECTORS = [
+    *rounded("first-vectors", "U(0,r)", FIRST, "f * u, model.F"),
+    *rounded("row-mean", "V", MEAN, "sum(map(mul, row, vector)), model.E"),
+    *rounded("w", "W", W, "f * u, model.F"),
+    *rounded("mix", "U(n,r)", MIX, "n * v + r * w, n + r"),
+    wrong("first-vectors-one-division", "U(0,r) as f^r over F^r, divided once",
+          ("for _ in range(model.R):\n        vectors.append([" + FIRST,
+           "for r in range(1, model.R + 1):\n        vectors.append([f**r * ONE // model.F**r for f in model.f")),
+    wrong("first-vectors-not-powers", "U(0,r) as f over F for every r", (FIRST, "f * ONE // model.F for f in model.f")),
+    wrong("first-vectors-0", "U(0,r) as 0", (FIRST, "0 for f in model.f")),
+    wrong("v-not-divided", "U(n,r) with V not rounded", (MEAN, "sum(map(mul, row, vector))"),
+          (MIX, "(n * v + r * w * model.E) // ((n + r) * model.E)")),
+    wrong("w-not-divided", "U(n,r) with W not rounded", (W, W.replace(" // model.F", "")),
+          (MIX, "(n * v * model.F + r * w) // ((n + r) * model.F)")),
+    wrong("mix-one-division", "U(n,r) with neither V nor W rounded", (MEAN, "sum(map(mul, row, vector))"),
+          (W, W.replace(" // model.F", "")),
+          (MIX, "(n * v * model.F + r * w * model.E) // ((n + r) * model.E * model.F)")),
+    wrong("mix-two-divisions", "n V and r W divided one by one", (MIX, "n * v // (n + r) + r * w // (n + r)")),
+    wrong("row-mean-each-product", "V with each product divided",
+          (MEAN, "sum(a * b // model.E for a, b in zip(row, vector))")),
+    wrong("row-mean-probabilities", "V with c(i,j) / E kept in units of 10^-12",
+          (MEAN, "sum(a * ONE // model.E * b for a, b in zip(row, vector)) // ONE")),
+    wrong("row-mean-binary64", "V in binary64",
+          (MEAN, "int(sum(float(a) * b for a, b in zip(row, vector)) / model.E)")),
+    wrong("row-mean-64-bit-signed", "V's sum in 64 bits with a sign",
+          (MEAN, "signed(sum(map(mul, row, vector)), 64) // model.E")),
+    wrong("row-mean-15-digits", "V's sum with 15 digits", (MEAN, "digits15(sum(map(mul, row, vector))) // model.E")),
+    wrong("w-binary64", "W in binary64", (W, W.replace("f * u // model.F", "binary64(f, u, model.F)"))),
+    wrong("w-share-in-billionths", "W with f / F kept in billionths",
+          (W, W.replace("f * u // model.F", "f * BILLION // model.F * u // BILLION"))),
+    wrong("overwritten", "the vector overwritten state by state", (MIXED, "overwritten(model, n, r, before[r], W)")),
+    wrong("w-of-n-1-and-r-1", "W takes U(n-1,r-1)", (W, W.replace("vectors[r - 1]", "before[r - 1]"))),
+    wrong("w-of-n-1-and-r", "W takes U(n-1,r)", (W, W.replace("vectors[r - 1]", "before[r]"))),
+    wrong("v-of-r-1", "V takes U(n-1,r-1)", (MEANS, MEANS.replace("before[r]", "before[r - 1]"))),
+    wrong("mix-exchanged", "n and r exchanged in U(n,r)", (MIX, "(r * v + n * w) // (n + r)")),
+    wrong("mix-n-from-0", "n counted from 0 in U(n,r)", (MIX, "((n - 1) * v + r * w) // (n - 1 + r)")),
+    wrong("mix-n-one-more", "n + 1 in place of n in U(n,r)", (MIX, "((n + 1) * v + r * w) // (n + 1 + r)")),
+    wrong("mix-half", "U(n,r) as the plain mean of V and W", (MIX, "(v + w) // 2")),
+    wrong("mix-r-1", "U(n,r) with r = 1 for every r", (MIX, "(n * v + w) // (n + 1)")),
+    wrong("vectors-stationary", "vectors kept once no number moves by more than 10^-9",
+          ("next_vectors(model, len(U), U[-1])", "unless_still(U[-1], next_vectors(model, len(U), U[-1]))")),
+    wrong("mix-misprinted-binomial", "U(n,r) by binomials, a lower index one off",
+          (MIX, "(comb(n + r - 1, r) * v + comb(n + r - 1, r) * w) // comb(n + r, r)")),
+]
+
+
+# --- Weights and level ---------------------------------------------------------------------------------
+
+WEIGHT_LIST = [
+    *rounded("weights-right", "weights right of m", RIGHT, "w[n] * X, (n + 1) * MILLION"),
+    *rounded("weights-left", "weights left of m", LEFT, "w[n] * n * MILLION, X"),
+    wrong("weights-right-binary64", "weights right of m in binary64", (RIGHT, "binary64(w[n], X, (n + 1) * MILLION)")),
+    wrong("weights-left-binary64", "weights left of m in binary64", (LEFT, "binary64(w[n], n * MILLION, X)")),
+    wrong("weights-right-64-bit", "w(n) X in 64 bits", (RIGHT, "w[n] * X % 2**64 // ((n + 1) * MILLION)")),
+    wrong("weights-left-64-bit", "w(n) n 1,000,000 in 64 bits", (LEFT, "w[n] * n * MILLION % 2**64 // X")),
+    wrong("weights-left-first-divided", "leftward, w(n) n divided before it is multiplied",
+          (LEFT, "w[n] * n // X * MILLION")),
+    wrong("weights-right-15-digits", "w(n) X with 15 digits", (RIGHT, "digits15(w[n] * X) // ((n + 1) * MILLION)")),
+    wrong("weights-left-15-digits", "w(n) n 1,000,000 with 15 digits", (LEFT, "digits15(w[n] * n * MILLION) // X")),
+    wrong("weights-from-0", "weights started at n = 0 with 10^15", (WEIGHTS_M, "m = 0\n    w = ")),
+    wrong("weights-from-0-64-bit", "weights started at n = 0, the products in 64 bits", (WEIGHTS_M, "m = 0\n    w = "),
+          (RIGHT, "w[n] * X % 2**64 // ((n + 1) * MILLION)")),
+    wrong("weights-poisson", "weights as probabilities in binary64", ("w[m] = TOP_WEIGHT", "return poisson(X, last)")),
+    wrong("weights-top-10-to-12", "w(m) = 10^12", ("TOP_WEIGHT = 10**15", "TOP_WEIGHT = 10**12")),
+    wrong("weights-top-10-to-18", "w(m) = 10^18", ("TOP_WEIGHT = 10**15", "TOP_WEIGHT = 10**18")),
+    wrong("weights-whole-q", "q rounded down in the weights", (WEIGHTS, WEIGHTS + "    X = max(m, 1) * MILLION\n")),
+    wrong("weights-left-truncated", "weights below 10^-12 left of m taken as 0",
+          ("        w[n - 1] = " + LEFT, f"        w[n - 1] = {LEFT} if w[n] >= 1000 else 0")),
+    wrong("m-up", "m is q rounded up", (WEIGHTS_M, "m = up(X, MILLION)\n    w = "),
+          (TAIL_M, "m = up(X, MILLION)\n    return 1 ")),
+    wrong("m-nearest", "m is q rounded to the nearest", (WEIGHTS_M, "m = nearest(X, MILLION)\n    w = "),
+          (TAIL_M, "m = nearest(X, MILLION)\n    return 1 ")),
+]
+
+LEVEL = [
+    wrong("t-with-n-minus-m-plus-1", "t with n - m + 1", (TAIL, TAIL.replace("n - m", "n - m + 1"))),
+    wrong("t-with-n-minus-m-minus-1", "t with n - m - 1", (TAIL, TAIL.replace("n - m", "n - m - 1"))),
+    wrong("t-with-n", "t with n in place of n - m", (TAIL, TAIL.replace("n - m", "n"))),
+    wrong("t-without-n-minus-m", "t without n - m", (TAIL, TAIL.replace("(w[n] + n - m)", "w[n]"))),
+    wrong("t-without-its-1", "t without its 1", (TAIL, T_QUOTIENT)),
+    wrong("t-divisor-with-n", "t's divisor with n in place of n + 1", (TAIL, TAIL.replace("(n + 1)", "n"))),
+    wrong("t-divisor-with-n-plus-2", "t's divisor with n + 2 in place of n + 1",
+          (TAIL, TAIL.replace("n + 1", "n + 2"))),
+    *rounded("t", "t's quotient", T_QUOTIENT, "(w[n] + n - m) * X, (n + 1) * MILLION - X"),
+    wrong("t-binary64", "t's quotient in binary64", (TAIL, "1 + binary64(w[n] + n - m, X, (n + 1) * MILLION - X)")),
+    wrong("t-64-bit", "t's product in 64 bits", (TAIL, TAIL.replace("* X //", "* X % 2**64 //"))),
+    wrong("t-is-the-tail", "t is the sum of the weights right of n", (TAIL, "sum(w[n + 1:])")),
+    wrong("t-is-the-next-weight", "t is the weight right of n", (TAIL, "w[n + 1] if n < LEVEL_LIMIT else 0")),
+    wrong("t-below-its-bound", "t < its bound in place of t <= it", (T_TEST, T_TEST.replace("<=", "<"))),
+    *rounded("bound", "S(n) epsilon / 10^9", BOUND, "S * epsilon, BILLION"),
+    wrong("bound-binary64", "S(n) epsilon / 10^9 in binary64", (BOUND, "binary64(S, epsilon, BILLION)")),
+    wrong("bound-64-bit", "S(n) epsilon in 64 bits", (BOUND, "S * epsilon % 2**64 // BILLION")),
+    wrong("bound-15-digits", "S(n) epsilon with 15 digits", (BOUND, "digits15(S * epsilon) // BILLION")),
+    wrong("bound-first-divided", "S(n) divided by 10^9 before it is multiplied", (BOUND, "S // BILLION * epsilon")),
+    wrong("bound-in-millionths", "the tolerance taken in millionths", (BOUND, "S * epsilon // MILLION")),
+    wrong("bound-of-S-before-n", "S(n-1) in place of S(n)", (BOUND, "(S - w[n]) * epsilon // BILLION")),
+    wrong("bound-of-all-weights", "the sum of all weights in place of S(n)", (BOUND, "sum(w) * epsilon // BILLION")),
+    wrong("bound-of-w-m", "10^15 in place of S(n)", (BOUND, "TOP_WEIGHT * epsilon // BILLION")),
+    wrong("level-from-m", "the search begun at m, also where q is above it", (FROM_Q, "n >= X // MILLION and ")),
+    wrong("level-from-m-plus-2", "the search begun at m + 2", (FROM_Q, "n >= X // MILLION + 2 and ")),
+    wrong("level-from-0", "the search begun at 0", (FROM_Q, "")),
+    wrong("level-one-more", "the level one more", (LEVEL_FOUND, "            return n + 1\n")),
+    wrong("level-one-less", "the level one less", (LEVEL_FOUND, "            return n - 1\n")),
+    wrong("level-at-most-255", "the level at most 255", (LEVEL_FOUND, "            return min(n, 255)\n")),
+    wrong("level-at-most-256", "the level at most 256", (LEVEL_FOUND, "            return min(n, 256)\n")),
+    wrong("level-at-most-300", "the level at most 300", (LEVEL_FOUND, "            return min(n, 300)\n")),
+    wrong("level-always-1024", "the level always 1,024", (LEVEL_FOUND, "            return LEVEL_LIMIT\n")),
+    wrong("level-by-relation-10", "the level by relation (10) in binary64", ("w = weights(X, LEVEL_LIMIT)",
+          "return relation_10(X, epsilon)")),
+]
+
+
+# --- Moments ------------------------------------------------------------------------------------------
+
+MOMENTS = [
+    *rounded("terms", "the terms of A", TERM, "w[n] * U[n][r][i], ONE"),
+    wrong("terms-binary64", "the terms of A in binary64", (TERM, "binary64(w[n], U[n][r][i], ONE)")),
+    wrong("terms-64-bit", "w(n) U(n,r) in 64 bits", (TERM, "w[n] * U[n][r][i] % 2**64 // ONE")),
+    wrong("terms-15-digits", "w(n) U(n,r) with 15 digits", (TERM, "digits15(w[n] * U[n][r][i]) // ONE")),
+    wrong("terms-together", "A divided by 10^12 after it is summed",
+          (A, "sum(w[n] * U[n][r][i] for n in range(N + 1)) // ONE")),
+    wrong("terms-not-divided", "A not divided by 10^12 at all", (A, "sum(w[n] * U[n][r][i] for n in range(N + 1))"),
+          (LAST, "A // sum(w[:N + 1])")),
+    wrong("A-from-1", "A summed from n = 1", (A, A.replace("range(N + 1)", "range(1, N + 1)"))),
+    wrong("A-below-N", "A summed to N - 1", (A, A.replace("range(N + 1)", "range(N)"))),
+    wrong("S-below-N", "S(N-1) in place of S(N)", (LAST, "A * ONE // sum(w[:N])")),
+    wrong("S-of-all-weights", "A divided by the sum of all weights",
+          ("w = weights(model.X, N)", "w = weights(model.X, LEVEL_LIMIT)"), (LAST, "A * ONE // sum(w)")),
+    wrong("S-is-e-to-the-q", "A divided by e^q", ("moment(w, U, N, i - 1, r)\n",
+          "moment(w, U, N, i - 1, r) * sum(w) // e_to_q(model.X)\n")),
+    wrong("A-of-n-0", "A with U(0,r) for every n", (TERM, "w[n] * U[0][r][i] // ONE")),
+    *rounded("last-division", "the last division", LAST, "A * ONE, sum(w[:N + 1])"),
+    wrong("last-division-even", "the last division rounded to the nearest, a half to the even one",
+          (LAST, "even(A * ONE, sum(w[:N + 1]))")),
+    wrong("last-division-binary64", "the last division in binary64", (LAST, "binary64(A, ONE, sum(w[:N + 1]))")),
+    wrong("last-division-share", "A / S(N) in binary64, times 10^12", (LAST, "int(A / sum(w[:N + 1]) * ONE)")),
+    wrong("last-division-64-bit", "A 10^12 in 64 bits", (LAST, "A * ONE % 2**64 // sum(w[:N + 1])")),
+    wrong("last-division-15-digits", "A with 15 digits", (LAST, "digits15(A) * ONE // sum(w[:N + 1])")),
+    wrong("last-division-first-divided", "S(N) divided by 1,000 before the last division",
+          (LAST, "A * BILLION // (sum(w[:N + 1]) // 1000)")),
+    wrong("all-binary64", "vectors and sums in binary64, nothing cut before the last division",
+          (FIRST, FIRST.replace("f * u // model.F", "f / model.F * u")),
+          (MEAN, "sum(a / model.E * b for a, b in zip(row, vector))"),
+          (W, W.replace("f * u // model.F", "f / model.F * u")), (MIX, MIX.replace("//", "/")),
+          (TERM, "w[n] * U[n][r][i] / ONE"), (LAST, "int(A * ONE / sum(w[:N + 1]))")),
+    wrong("exact-fractions", "the exact average up to N, cut once",
+          ("moment(w, U, N, i - 1, r)\n", "int(average(model, N, i, r) * ONE)\n")),
+    wrong("variance", "the variance in place of the second moment", ("ticks = cells[(i - 1) * R + (r - 1)]",
+          "ticks = cells[(i - 1) * R + (r - 1)] - (cells[(i - 1) * R]**2 // ONE if r == 2 else 0)")),
+    wrong("cells-r-by-r", "the moments in their cells r by r", (CELL, "cells[(r - 1) * model.M + (i - 1)] = ")),
+    wrong("cells-eight-each", "eight cells for every state", (CELL, "cells[(i - 1) * 8 + (r - 1)] = ")),
+]
+
+
+# --- The printed sheet ----------------------------------------------------------------------------------
+
+FIRST_LINE = 'f"{word} {value}"'
+
+
+def figure(name, what, new):
+    return wrong(name, what, (LINE, LINE.replace(FIGURE, new)))
+
+
+SHEET = [
+    figure("eleven-digits", "eleven digits", "{ticks // ONE}.{ticks % ONE // 10:011d}"),
+    figure("thirteen-digits", "thirteen digits", "{ticks // ONE}.{ticks % ONE * 10:013d}"),
+    figure("digits-not-filled", "zeros left out behind the point", "{ticks // ONE}.{ticks % ONE}"),
+    figure("no-first-digit", "no digit before the point where it is 0", "{ticks // ONE or ''}.{ticks % ONE:012d}"),
+    figure("last-zeros-left-out", "zeros left out at the end", "{ticks / ONE:.12g}"),
+    figure("exponent", "an exponent for figures below 10^-4", "{exponent(ticks)}"),
+    figure("comma", "a comma for the point", "{ticks // ONE},{ticks % ONE:012d}"),
+    figure("one-printed-below", "1 printed as 0.999999999999", "0.{min(ticks, ONE - 1):012d}"),
+    figure("one-printed-as-0", "1 printed as 0.000000000000", "0.{ticks % ONE:012d}"),
+    figure("zero-printed-short", "0 printed without a point", "{f'{ticks // ONE}.{ticks % ONE:012d}' if ticks else 0}"),
+    figure("one-printed-short", "1 printed without a point", "{f'0.{ticks:012d}' if ticks < ONE else 1}"),
+    figure("figure-binary64", "the digits taken from the value in binary64",
+           "{as_binary64(ticks) // ONE}.{as_binary64(ticks) % ONE:012d}"),
+    figure("figure-in-percent", "percent", "{ticks // 10**10}.{ticks % 10**10:010d}"),
+    wrong("states-one-digit", "states printed as one character", (LINE, LINE.replace("{i}", "{chr(48 + i)}"))),
+    wrong("states-from-0", "states counted from 0", (LINE, LINE.replace("{i}", "{i - 1}"))),
+    wrong("r-from-0", "r counted from 0", (LINE, LINE.replace("{r}", "{r - 1}"))),
+    wrong("r-before-state", "r printed before the state", (LINE, LINE.replace("{i} {r}", "{r} {i}"))),
+    wrong("columns-filled", "states printed with two places", (LINE, LINE.replace("{i}", "{i:2d}"))),
+    wrong("tabs", "fields parted by tabs", (LINE, LINE.replace("} {", "}\\t{"))),
+    wrong("trailing-space", "a space at the end of lines", (ENDED, ENDED.replace("\\n", " \\n"))),
+    wrong("lines-r-by-r", "the lines r by r", ("for i in range(1, M + 1):\n            for r in range(1, R + 1):",
+          "for r in range(1, R + 1):\n            for i in range(1, M + 1):")),
+    wrong("last-line-missing", "the last line left out", (ENDED, ENDED.replace("lines", "(lines[:-1] or lines)"))),
+    wrong("blank-line-at-the-end", "a blank line at the end", (ENDED, ENDED.replace("lines", 'lines + [""]'))),
+    wrong("level-two-digits", "the level printed with its last two digits", (FIRST_LINE, 'f"{word} {value % 100}"')),
+    wrong("level-counts-terms", "the count of the terms printed for the level",
+          (FIRST_LINE, """f"{word} {value + (word == 'level')}\"""")),
+    *(wrong(f"output-{size}", f"the sheet cut off after {size} bytes", (ENCODED, f"{ENCODED}[:{size}]"))
+      for size in (4096, 8192, 10_000)),
+    wrong("level-in-capitals", "a capital first letter", (FIRST_LINE, 'f"{word.capitalize()} {value}"')),
+    wrong("level-with-colon", "a colon in the first line", (FIRST_LINE, 'f"{word}: {value}"')),
+    wrong("level-left-out", "the level's line left out", (FIRST_LINE, FIRST_LINE + '][:word == "refused"')),
+    wrong("refused-as-error", "error in place of refused", (FIRST_LINE, FIRST_LINE + '.replace("refused", "error")')),
+    wrong("refused-two-digits", "the row printed with two digits", (FIRST_LINE, 'f"{word} {value:02d}"')),
+    wrong("refused-silent", "nothing printed for a refused file",
+          ("word, value = calculate(file, cells)", "word, value = calculate(file, cells)\n    if word == 'refused':"
+           "\n        return b''")),
+    wrong("refused-and-figures", "figures printed behind a refusal", ('if word == "level":', "if len(file) > 4:")),
+    wrong("no-length-silent", "nothing printed for an input of fewer than 2 bytes",
+          (INPUT, INPUT + "\n    if len(file) < 2:\n        return b''")),
+]
+
+
+# --- Input and output of the program ------------------------------------------------------------------------
+
+STDIN = "sys.stdin.buffer.raw"
+WRITE = "sys.stdout.buffer.write(output)"
+
+PROGRAMS = [
+    program("single-read", "input read once", (READ, f"return {STDIN}.read(READ_LIMIT)")),
+    program("two-reads", "13 bytes read, then the others at once",
+            (READ, f"return {STDIN}.read(13) + {STDIN}.read(16385)")),
+    program("four-reads", "at most four reads", (READ, f"return b''.join({STDIN}.read(READ_LIMIT) for _ in range(4))")),
+    program("short-read-is-the-end", "a read of fewer than 4,096 bytes taken for the last",
+            (READ, f"return read_pieces({STDIN}, 4096, READ_LIMIT, lambda file: len(file) % 4096)")),
+    program("read-to-its-length", "nothing read behind the length that the file gives",
+            (READ, f"return read_pieces({STDIN}, READ_LIMIT, READ_LIMIT, "
+             "lambda file: len(file) >= 2 and len(file) >= 2 + number(file, 0, 2))")),
+    program("read-without-end", "input read until 16,398 bytes are there, no end seen",
+            (READ, f"file = b''\n    while len(file) < READ_LIMIT:\n        file += {STDIN}.read(READ_LIMIT)\n"
+             "    return file"), time_limit=1),
+    program("CRLF", "lines ended by 0D 0A", (WRITE, 'sys.stdout.buffer.write(output.replace(b"\\n", b"\\r\\n"))')),
+    program("CR", "lines ended by 0D", (WRITE, 'sys.stdout.buffer.write(output.replace(b"\\n", b"\\r"))')),
+    program("no-last-line-end", "no line end behind the last line", (WRITE, "sys.stdout.buffer.write(output[:-1])")),
+    program("byte-order-mark", "a byte order mark before the sheet",
+            (WRITE, 'sys.stdout.buffer.write(b"\\xef\\xbb\\xbf" + output)')),
+    program("UTF-16", "two bytes for each character",
+            (WRITE, 'sys.stdout.buffer.write(output.decode().encode("utf-16"))')),
+    program("signal-at-the-end", "ended by a signal behind the sheet", (WRITE, f"{WRITE}\n        crash()")),
+]
+
+
+# --- Changes that no sheet can show -------------------------------------------------------------------------
+
+EQUIVALENT = [
+    wrong("level-above-q", "n 1,000,000 > X for >=: at n = q, t is above q 10^15, and its bound at most (q + 1) 10^14",
+          (FROM_Q, "n * MILLION > X and ")),
+    wrong("level-from-m-plus-1", "the search begun at m + 1: at n = m the test is reached only where q = m, as above",
+          (FROM_Q, "n >= X // MILLION + 1 and ")),
+    wrong("level-at-most-512", "the level at most 512: there w(n) is 0 and t at most 511, its bound at least 10^6",
+          (LEVEL_FOUND, "            return min(n, 512)\n")),
+    wrong("weights-right-two-divisions", "w(n) X over 1,000,000, down, then over n + 1, down: the same whole number",
+          (RIGHT, "w[n] * X // MILLION // (n + 1)")),
+    wrong("mix-binomials", "U(n,r) by binomials: their shares are n / (n + r) and r / (n + r)",
+          (MIX, "(comb(n + r - 1, r) * v + comb(n + r - 1, r - 1) * w) // comb(n + r, r)")),
+    wrong("mix-binary64", "U(n,r) in binary64: below 2^53, and 1 / (n + r) is above the distance of two numbers there",
+          (MIX, "int((n * v + r * w) / (n + r))")),
+    wrong("row-mean-j-falling", "V summed from the last j: a sum of whole numbers has no order",
+          (MEAN, "sum(map(mul, row[::-1], vector[::-1])) // model.E")),
+    wrong("figure-rounded-binary64", "figures printed from binary64 with twelve digits: it holds fifteen",
+          (LINE, LINE.replace(FIGURE, "{ticks / ONE:.12f}"))),
+    wrong("length-signed", "the length as 16 bits with a sign: 32,768 and more never fits the bytes read",
+          (NUMBER, f"signed({NUMBER}, 16) if start == 0 else {NUMBER}")),
+    border(6, "16-bit", "4 M M + 11 in 16 bits: it is 16,395 at most, as M is at most 64 by row 4",
+           "length != (4 * M * M + 11) % 2**16"),
+    earlier(10, 9)._replace(what="row 10 tested before row 9: rewards that are all 0 are not above their limit"),
+    border(13, "left-out", "not tested: 512 cells are enough for 64 states and 8 moments", "False"),
+]
+
+GROUPS = (MODEL_FILE, REFUSAL_TABLE, CHAIN, VECTORS, WEIGHT_LIST, LEVEL, MOMENTS, SHEET, PROGRAMS)
+TABLE = {}
+for _entry in (entry for group in GROUPS for entry in group):
+    if _entry.name in TABLE:
+        raise ValueError(f"two wrong calculators are named {_entry.name}")
+    TABLE[_entry.name] = _entry

@@ -1,0 +1,152 @@
+"""One run of a calculator on a model, and the first difference between two sheets in words.
+
+A model is written to standard input in pieces, each once the calculator has taken the one
+before. So every read of the calculator gets one piece at most, and one that reads too few
+times is seen to do so. What a calculator does with its input is its own affair: it may close
+it early or never read it.
+"""
+
+import contextlib
+import os
+import signal
+import subprocess
+import sys
+import threading
+
+try:
+    import fcntl
+    import termios
+except ImportError:          # not on every system
+    fcntl = None
+
+TIME_LIMIT = 120             # seconds for one model
+NO_END = "no end within"
+OUTPUT_LIMIT = 1_000_000     # bytes; the longest sheet has 513 lines and about 10,000 bytes
+PAUSE = 0.005                # seconds between pieces where the system does not tell what was taken
+
+
+# --- Feeding ----------------------------------------------------------------------------------
+
+def pieces(file):
+    """The file in pieces: cut after bytes 1, 7 and 15, about every 4,096 bytes, and before the last byte."""
+    cuts = {1, 7, 15, len(file) - 1} | set(range(4095, len(file), 4097))
+    places = [0] + sorted(cut for cut in cuts if 0 < cut < len(file)) + [len(file)]
+    return [file[start:end] for start, end in zip(places, places[1:])]
+
+
+def untaken(reader):
+    """How many bytes wait in the pipe to be read, or None where the system does not tell."""
+    if fcntl is None:
+        return None
+    try:
+        return int.from_bytes(fcntl.ioctl(reader, termios.FIONREAD, bytes(4)), sys.byteorder)
+    except OSError:
+        return None
+
+
+def await_reader(reader, ended):
+    """Returns once the calculator has taken all that was written, or has ended."""
+    if untaken(reader) is None:
+        ended.wait(PAUSE)
+        return
+    wait = 0.00005
+    while untaken(reader) and not ended.wait(wait):
+        wait = min(1.2 * wait, 0.002)
+
+
+def feed(reader, writer, file, ended):
+    """Writes the file to the pipe and closes it. `ended` is set when the calculator has ended."""
+    with contextlib.suppress(OSError), open(reader, "rb"), open(writer, "wb", buffering=0) as target:
+        for piece in pieces(file):
+            await_reader(reader, ended)
+            if ended.is_set():
+                break
+            target.write(piece)
+
+
+# --- Running -----------------------------------------------------------------------------------
+
+def start(command, file):
+    """The started process, and an event to be set when it has ended. An OSError where it cannot start."""
+    reader, writer = os.pipe()
+    try:
+        process = subprocess.Popen(command, stdin=reader, stdout=subprocess.PIPE, start_new_session=True)
+    except OSError:
+        os.close(reader)
+        os.close(writer)
+        raise
+    ended = threading.Event()
+    threading.Thread(target=feed, args=(reader, writer, file, ended), daemon=True).start()
+    return process, ended
+
+
+def end(process):
+    """Ends a process that still runs, with those that it started itself."""
+    if process.poll() is not None:
+        return
+    with contextlib.suppress(OSError):
+        if hasattr(os, "killpg"):
+            os.killpg(process.pid, signal.SIGKILL)
+        else:
+            process.kill()
+
+
+def run(command, file, time_limit=TIME_LIMIT):
+    """What the command prints for a model, and a word on how the run went wrong (or an empty one)."""
+    process, ended = start(command, file)
+    late = threading.Event()
+
+    def give_up():
+        if process.poll() is None:
+            late.set()
+            end(process)
+
+    timer = threading.Timer(time_limit, give_up)
+    timer.start()
+    try:
+        output = process.stdout.read(OUTPUT_LIMIT)
+        if len(output) == OUTPUT_LIMIT:
+            return output, f"more than {OUTPUT_LIMIT} bytes of output"
+        status = process.wait()
+    finally:
+        timer.cancel()
+        end(process)
+        ended.set()
+        process.stdout.close()
+        process.wait()
+    if late.is_set():
+        return output, f"{NO_END} {time_limit} seconds"
+    return output, f"ended by signal {-status}" if status < 0 else ""
+
+
+# --- Comparing ---------------------------------------------------------------------------------
+
+def shown(output, k):
+    """The character at place k, as a word."""
+    if k >= len(output):
+        return "end of output"
+    if output[k:k + 2] == b"\r\n":
+        return "carriage return (CRLF)"
+    words = {9: "tab", 10: "end of line", 13: "carriage return", 32: "space"}
+    if output[k] in words:
+        return words[output[k]]
+    return f"'{chr(output[k])}'" if 32 < output[k] < 127 else f"byte {output[k]:02X}"
+
+
+def first_difference(expected, got):
+    """Where got first differs from expected, in words; lines and columns count from 1."""
+    k = 0
+    while k < len(expected) and k < len(got) and expected[k] == got[k]:
+        k += 1
+    line = expected.count(b"\n", 0, k) + 1
+    column = k - (expected.rfind(b"\n", 0, k) + 1) + 1
+    return f"line {line}, column {column}: expected {shown(expected, k)}, got {shown(got, k)}"
+
+
+def check(command, file, expected, time_limit=TIME_LIMIT):
+    """An empty word when the command prints the expected sheet, else what is wrong."""
+    output, trouble = run(command, file, time_limit)
+    wrong = [trouble] if trouble else []
+    if output != expected:
+        wrong.append(first_difference(expected, output))
+    return "; ".join(wrong)

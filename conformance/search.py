@@ -1,0 +1,301 @@
+#!/usr/bin/env python3
+"""Searches for edge files of the kit: small models on which a rounding or a border decides the sheet.
+
+    python3 conformance/search.py                         the searches, one line each
+    python3 conformance/search.py NAME [--from K] [--to K] [--step D] [--seed S] [--finds F] [--seconds T]
+    python3 conformance/search.py WRONG --against OTHER   two calculators of mutants.py against each other
+    python3 conformance/search.py --check                 every row of edges.py is found again and holds
+
+NAME is a search of the list or a wrong calculator of mutants.py. A search makes numbered tries: number K
+always gives the same models. What it finds is printed as rows of edges.py.
+"""
+
+import os
+import sys
+import textwrap
+import time
+from collections import namedtuple
+
+sys.dont_write_bytecode = True
+HERE = os.path.dirname(os.path.abspath(__file__))
+sys.path.insert(0, HERE)
+sys.path.insert(0, os.path.join(os.path.dirname(HERE), "reference"))
+
+import calculator  # noqa: E402
+import edges  # noqa: E402
+import models  # noqa: E402
+import mutants  # noqa: E402
+from calculator import ONE  # noqa: E402
+from edges import Edge, Half  # noqa: E402
+from families import FAMILIES, level_blocks, level_crossings, level_edges, miss_at, two_states  # noqa: E402
+
+NEAR_HALF = 10**5      # "a little" off the half is at most this part of the divisor
+
+# tries(K, options) gives rows without a search; judge(row, options) what holds of a row, or nothing.
+Search = namedtuple("Search", "what tries judge")
+
+
+# --- What holds of a row -------------------------------------------------------------------------
+
+def near_bound(row, options):
+    """t at n within reach of its bound, as the level's families give it."""
+    return row.holds if abs(row.holds[0].miss) <= options.within else []
+
+
+def built(row):
+    """The bytes of a row's model."""
+    return models.build(**models.edge_fields(row))
+
+
+def last_divisions(row):
+    """(state, r, remainder, divisor) of the last division of every moment."""
+    model = calculator.read_model(built(row))
+    N = calculator.level(model.X, model.epsilon)
+    w = calculator.weights(model.X, N)
+    U = calculator.reward_vectors(model, N)
+    S = sum(w)
+    for i in range(model.M):
+        for r in range(1, model.R + 1):
+            A = sum(w[n] * U[n][r][i] // ONE for n in range(N + 1))
+            yield i + 1, r, A * ONE % S, S
+
+
+def half_ticks(row, options):
+    """The moments whose last division leaves half its divisor, or a little less or more."""
+    result = []
+    for state, r, rest, S in last_divisions(row):
+        off = 2 * rest - S
+        if abs(off) * NEAR_HALF <= S:
+            result.append(Half(state, r, (off > 0) - (off < 0)))
+    return result
+
+
+def printed(module, row):
+    """The sheet that a calculator prints for a row, or None where it ends with an error."""
+    try:
+        return module.sheet(built(row))
+    except Exception:        # whatever stops it, it prints no sheet
+        return None
+
+
+def other_sheet(row, options):
+    """The wrong calculator prints another sheet than the reference, or than the one it is set against."""
+    if printed(options.wrong, row) == printed(options.right, row):
+        return []
+    return row.holds + [f"{options.name} against {options.against}" if options.against else options.name]
+
+
+SEARCHES = {
+    "level-edges": Search("t meets its bound or misses it by one; try K is X = K", level_edges, near_bound),
+    "level-blocks": Search("the same, faster, from q = 1 on; try K is the X from 1,000 K on", level_blocks, near_bound),
+    "level-crossings": Search("the same for a small tolerance and some n, whatever X", level_crossings, near_bound),
+    "half-ticks": Search("the last division leaves half its divisor, or a little less or more", two_states, half_ticks),
+}
+
+
+# --- Wrong calculators ------------------------------------------------------------------------------
+
+CALCULATION = {"first_vectors", "row_means", "next_vectors", "weights", "tail", "level", "moment"}
+
+
+def changed_functions(name):
+    """The functions of the reference that a wrong calculator changes."""
+    text = mutants.reference_text()
+    before = [text[:text.index(old)] for old, _ in mutants.TABLE[name].changes]
+    return {part.rpartition("\ndef ")[2].split("(")[0] for part in before}
+
+
+def family_for(name):
+    """The level's family where only the level is changed, else the two families of pairs."""
+    return "level-crossings" if changed_functions(name) <= {"tail", "level"} else "two-states"
+
+
+# --- Running a search -----------------------------------------------------------------------------------
+
+def read_options(words):
+    """The options of a search; one line and status 2 where they are wrong."""
+    parser = models.Parser(prog="search.py", description="Search for edge files of the kit.")
+    parser.add_argument("name", help="a search, or a wrong calculator of mutants.py")
+    parser.add_argument("--against", metavar="OTHER", help="a second wrong calculator in place of the reference")
+    parser.add_argument("--family", choices=sorted(FAMILIES), help="the models to try")
+    parser.add_argument("--seed", type=int, default=1)
+    parser.add_argument("--from", type=models.positive, default=1, dest="first", metavar="K", help="the first try")
+    parser.add_argument("--to", type=models.positive, default=models.MAX_X, dest="last", metavar="K", help="the last")
+    parser.add_argument("--try", type=models.positive, dest="only", metavar="K", help="try K alone")
+    parser.add_argument("--step", type=models.positive, default=1)
+    parser.add_argument("--within", type=models.positive, default=1, help="how far t may be from its bound")
+    parser.add_argument("--least", type=models.positive, default=1, help="the least tolerance for which t is tried")
+    parser.add_argument("--finds", type=models.positive, default=4, help="stop after so many")
+    parser.add_argument("--seconds", type=models.positive, default=60, help="stop after this time")
+    options = parser.parse_args(words)
+    if options.only:
+        options.first = options.last = options.only
+    for name in (options.name, options.against or options.name):
+        if name not in mutants.TABLE and (name not in SEARCHES or options.against):
+            parser.error(f"no search and no wrong calculator is named {name}")
+    return options
+
+
+def prepared(options):
+    """The search that the options name; the calculators it needs go into the options."""
+    if options.name in SEARCHES:
+        search = SEARCHES[options.name]
+        return search._replace(tries=FAMILIES[options.family]) if options.family else search
+    options.wrong = mutants.calculator(options.name)
+    options.right = mutants.calculator(options.against) if options.against else calculator
+    family = options.family or family_for(options.name)
+    return Search(mutants.TABLE[options.name].what, FAMILIES[family], other_sheet)
+
+
+def command(options, first, last):
+    """The words that repeat the tries from first to last."""
+    words = [options.name]
+    for word, value, usual in (("against", options.against, None), ("family", options.family, None),
+                               ("seed", options.seed, 1), ("within", options.within, 1), ("least", options.least, 1)):
+        if value != usual:
+            words.append(f"--{word} {value}")
+    if first == last:
+        return " ".join(words + [f"--try {first}"])
+    return " ".join(words + [f"--from {first} --to {last}"] + [f"--step {options.step}"] * (options.step > 1))
+
+
+def finds(search, options, k):
+    """The rows that try k finds."""
+    for row in search.tries(k, options):
+        holds = search.judge(row, options)
+        if holds:
+            yield row._replace(search=command(options, k, k), holds=holds)
+
+
+def shown(row):
+    """A row as the text of edges.py, numbers with underscores."""
+    def number(value):
+        return f"[{', '.join(map(number, value))}]" if isinstance(value, list) else f"{value:_}"
+
+    def held(each):
+        return f'"{each}"' if isinstance(each, str) else f"{type(each).__name__}{tuple(each)}"
+
+    parts = [f'Edge("{row.name}", "{row.search}",', f'     [{", ".join(map(held, row.holds))}],',
+             f'     {", ".join(map(number, model_of(row)))}),']
+    parts[1] = textwrap.fill(parts[1], 116, subsequent_indent="      ", break_on_hyphens=False)
+    return textwrap.indent("\n".join(parts), "    ")
+
+
+def run(options):
+    """One search to its end: rows, how many tries, how long, and the command that repeats it."""
+    search, start, found, k = prepared(options), time.monotonic(), [], None
+    for k in range(options.first, options.last + 1, options.step):
+        for row in finds(search, options, k):
+            if model_of(row) not in found:
+                found.append(model_of(row))
+                name = row.name or f"rounding-{options.name}-{len(found)}"
+                print(shown(row._replace(name=name)), flush=True)
+        if len(found) >= options.finds or time.monotonic() - start > options.seconds:
+            break
+    tries = 0 if k is None else (k - options.first) // options.step + 1
+    print(f"{tries} tries, {len(found)} found, {time.monotonic() - start:.1f} seconds; to repeat: "
+          f"python3 conformance/search.py {command(options, options.first, k or options.last)}"
+          f" --finds {max(len(found), 1)} --seconds {10 * options.seconds}")
+    return 0 if found else 1
+
+
+# --- The stored rows ---------------------------------------------------------------------------------------
+
+# Searches that are quick from their first try on, and stored rows that they find.
+QUICK = [
+    ("level-edges --from 2020000 --to 2029999", ["level-edge-002025767-at-4"]),
+    ("level-blocks --from 2000 --to 2040", ["level-edge-002025767-at-4"]),
+    ("level-crossings --to 400", ["level-edge-216543796-at-310", "level-edge-224789569-at-318"]),
+    ("t-nearest --to 130", ["level-edge-005499024-at-23"]),
+    ("half-ticks --to 850", ["half-tick-1", "half-tick-2"]),
+    ("last-division-even --against last-division-nearest --to 850", ["half-tick-1", "half-tick-2"]),
+    ("m-nearest --to 330", ["rounding-m-nearest-1", "rounding-m-nearest-2"]),
+    ("weights-right-nearest --to 430", ["rounding-weights-right-nearest-1"]),
+]
+
+
+def model_of(row):
+    return row[Edge._fields.index("R"):]
+
+
+def holds_of(row, each):
+    """Whether one stated thing holds of a row's model."""
+    if isinstance(each, str):
+        wrong, _, other = each.partition(" against ")
+        right = mutants.calculator(other) if other else calculator
+        return printed(mutants.calculator(wrong), row) != printed(right, row)
+    if isinstance(each, Half):
+        return each in half_ticks(row, None)
+    model = calculator.read_model(built(row))
+    level = each.n + (each.miss > 0)
+    return (miss_at(model.X, each.n, model.epsilon), calculator.level(model.X, model.epsilon)) == (each.miss, level)
+
+
+def found_by(words):
+    """The models that a search finds, all its tries run."""
+    options = read_options(words.split())
+    search = prepared(options)
+    return [model_of(row) for k in range(options.first, options.last + 1, options.step)
+            for row in finds(search, options, k)]
+
+
+def troubles(row):
+    """What is wrong with a row: a line for each thing that does not hold, and for a search that does not find it."""
+    result = [] if row.holds else ["nothing is said to hold of it"]
+    try:
+        result += [f"{each} does not hold" for each in row.holds if not holds_of(row, each)]
+    except KeyError as name:
+        return [f"no wrong calculator is named {name}"]
+    if row.search and model_of(row) not in found_by(row.search):
+        result.append(f"not found by search.py {row.search}")
+    return result
+
+
+def self_test():
+    """A row with another tolerance, and one that states too much, have to be told as wrong."""
+    level, digits = edges.LEVEL_ROWS[0], edges.DIGIT_ROWS[-1]
+    for row in (level._replace(epsilon=level.epsilon + 1), digits._replace(holds=["bound-up"]),
+                digits._replace(holds=[Half(1, 1, 0)]), digits._replace(T=digits.T + 1, holds=["row-mean-up"])):
+        if not troubles(row):
+            yield f"a changed row passes: {row}"
+
+
+def check():
+    """Every row of edges.py: what it states holds, its try gives it; and the quick searches find what is stored."""
+    start, again = time.monotonic(), sum(1 for row in edges.EDGES if row.search)
+    lines = list(self_test()) + [f"{row.name}: {line}" for row in edges.EDGES for line in troubles(row)]
+    rows = {row.name: row for row in edges.EDGES}
+    for words, names in QUICK:
+        found = found_by(words)
+        lines += [f"{name}: not found by search.py {words}" for name in names if model_of(rows[name]) not in found]
+    for line in lines:
+        print(line)
+    print(f"edges: {len(edges.EDGES)} rows, {again} given again by their tries, {len(QUICK)} searches run, "
+          f"{len(lines)} wrong, {time.monotonic() - start:.1f} seconds")
+    return 1 if lines else 0
+
+
+def list_searches():
+    """A line for each search, then for each wrong calculator that changes a step of the calculation."""
+    for name, search in SEARCHES.items():
+        print(f"{name}: {search.what}")
+    for name, entry in mutants.TABLE.items():
+        if changed_functions(name) <= CALCULATION:
+            print(f"{name}: models that show it: {entry.what}")
+    return 0
+
+
+def main(words):
+    try:
+        if not words:
+            return list_searches()
+        if words == ["--check"]:
+            return check()
+        return run(read_options(words))
+    except ValueError as error:        # an old text of mistakes.py that is not in the reference
+        print(f"search.py: {error}", file=sys.stderr)
+        return 2
+
+
+if __name__ == "__main__":
+    sys.exit(main(sys.argv[1:]))

@@ -1,0 +1,145 @@
+#!/usr/bin/env python3
+"""Tests of the runner: python3 conformance/test_runner.py"""
+
+import os
+import subprocess
+import sys
+import tempfile
+import time
+import unittest
+from unittest import mock
+
+sys.dont_write_bytecode = True
+HERE = os.path.dirname(os.path.abspath(__file__))
+sys.path.insert(0, HERE)
+
+import runner  # noqa: E402
+
+FILE = bytes(k % 251 for k in range(16_397))
+
+
+def python(text):
+    """The command of a program that is given as text."""
+    return [sys.executable, "-B", "-c", text]
+
+
+SIZES = python("import os\nwhile True:\n    n = len(os.read(0, 20000))\n    if not n: break\n    print(n)")
+REFERENCE = [sys.executable, "-B", os.path.join(HERE, "..", "reference", "calculator.py")]
+COPY = python("import sys; sys.stdout.buffer.write(sys.stdin.buffer.read())")
+
+
+class Feeding(unittest.TestCase):
+
+    def test_pieces_are_the_file(self):
+        for size in (0, 1, 2, 7, 8, 13, 17, 29, 4_095, 4_096, 16_397, 20_000):
+            file = bytes(size)
+            self.assertEqual(b"".join(runner.pieces(file)), file)
+            self.assertTrue(size < 2 or len(runner.pieces(file)) > 1, size)
+            self.assertLess(max(map(len, runner.pieces(file))), 4_100)
+
+    def test_a_read_gets_one_piece(self):
+        for size in (1, 13, 29, 4_200, 16_397):
+            sizes = [len(piece) for piece in runner.pieces(FILE[:size])]
+            self.assertEqual(runner.run(SIZES, FILE[:size]), ("".join(f"{k}\n" for k in sizes).encode(), ""))
+
+    def test_whole_file_arrives(self):
+        self.assertEqual(runner.run(COPY, FILE), (FILE, ""))
+        self.assertEqual(runner.run(COPY, b""), (b"", ""))
+
+    def test_whole_file_arrives_where_the_system_does_not_tell(self):
+        with mock.patch.object(runner, "fcntl", None):
+            self.assertEqual(runner.run(COPY, FILE), (FILE, ""))
+
+
+class Ends(unittest.TestCase):
+
+    def test_input_not_read(self):
+        self.assertEqual(runner.run(python("print(5)"), FILE), (b"5\n", ""))
+
+    def test_input_closed_early(self):
+        text = "import os, time; os.read(0, 3); os.close(0); time.sleep(0.1); print(5)"
+        self.assertEqual(runner.run(python(text), FILE), (b"5\n", ""))
+
+    def test_exit_status_does_not_count(self):
+        self.assertEqual(runner.run(python("print(5); exit(3)"), FILE), (b"5\n", ""))
+
+    def test_signal(self):
+        text = "import os; os.write(1, b'5'); os.kill(os.getpid(), 9)"
+        self.assertEqual(runner.run(python(text), FILE), (b"5", "ended by signal 9"))
+        self.assertEqual(runner.check(python(text), FILE, b"5"), "ended by signal 9")
+
+    def test_no_end(self):
+        start = time.monotonic()
+        for command in (["sleep", "60"], ["sh", "-c", "sleep 60; echo"], ["sh", "-c", "exec >&-; sleep 60"]):
+            self.assertEqual(runner.run(command, FILE, 0.3), (b"", "no end within 0.3 seconds"))
+        self.assertLess(time.monotonic() - start, 30)
+
+    def test_output_without_end(self):
+        output, trouble = runner.run(["yes"], FILE, 30)
+        self.assertEqual((len(output), trouble), (runner.OUTPUT_LIMIT, "more than 1000000 bytes of output"))
+
+    def test_no_such_command(self):
+        with self.assertRaises(OSError):
+            runner.run(["no-such-command"], FILE)
+
+
+class Words(unittest.TestCase):
+
+    def test_first_difference(self):
+        sheet = b"level 3\n1 1 0.5\n"
+        for got, words in (
+                (b"level 4\n1 1 0.5\n", "line 1, column 7: expected '3', got '4'"),
+                (b"level 3\n1 1 0.5", "line 2, column 8: expected end of line, got end of output"),
+                (b"level 3\n1 1 0.5\n2", "line 3, column 1: expected end of output, got '2'"),
+                (b"level 3\r\n1 1 0.5\r\n", "line 1, column 8: expected end of line, got carriage return (CRLF)"),
+                (b"level 3\r1 1 0.5\r", "line 1, column 8: expected end of line, got carriage return"),
+                (b"level 3 \n1 1 0.5\n", "line 1, column 8: expected end of line, got space"),
+                (b"level\t3\n", "line 1, column 6: expected space, got tab"),
+                (b"\xef\xbb\xbflevel 3\n", "line 1, column 1: expected 'l', got byte EF"),
+                (b"", "line 1, column 1: expected 'l', got end of output")):
+            self.assertEqual(runner.first_difference(sheet, got), words)
+
+    def test_check(self):
+        self.assertEqual(runner.check(COPY, b"abc", b"abc"), "")
+        self.assertEqual(runner.check(COPY, b"abc", b"abd"), "line 1, column 3: expected 'd', got 'c'")
+
+
+class Programs(unittest.TestCase):
+    """run.py and compare.py, from another folder."""
+
+    def run_program(self, name, *arguments):
+        with tempfile.TemporaryDirectory() as folder:
+            command = [sys.executable, "-B", os.path.join(HERE, name), *arguments]
+            return subprocess.run(command, cwd=folder, env={**os.environ, "TMPDIR": folder}, capture_output=True,
+                                  text=True, check=False)
+
+    def compare(self, *arguments):
+        return self.run_program(os.path.join("..", "reference", "compare.py"), *arguments)
+
+    def test_run(self):
+        result = self.run_program("run.py", "printf", r"refused 3\r\n")
+        self.assertEqual((result.returncode, result.stderr), (1, ""))
+        self.assertIn("hand-A-version-2.model: line 1, column 10: expected end of line, got carriage return (CRLF)\n",
+                      result.stdout)
+        self.assertRegex(result.stdout, r"\n0 passed, \d+ failed\n\Z")
+
+    def test_compare(self):
+        result = self.compare("--count", "4", "--seed", "2", *REFERENCE)
+        self.assertEqual((result.returncode, result.stderr), (0, ""))
+        self.assertTrue(result.stdout.endswith("compared 4 models, seed 2: all equal\n"))
+
+    def test_compare_different(self):
+        result = self.compare("--count", "4", sys.executable, "-B", os.path.join(HERE, "mutants.py"), "--as", "CRLF")
+        self.assertEqual((result.returncode, result.stderr), (1, ""))
+        self.assertIn(": line 1, column 8: expected end of line, got carriage return (CRLF)\n", result.stdout)
+        self.assertIn("\nmodel 1 of 4 differs, seed 1; it is saved as ", result.stdout)
+
+    def test_no_run(self):
+        for result in (self.run_program("run.py"), self.run_program("run.py", "--wrong"),
+                       self.run_program("run.py", "no-such-command"), self.compare("no-such-command"),
+                       self.compare("--seed", "1", "--fresh", *REFERENCE), self.compare("--program", *REFERENCE)):
+            self.assertEqual((result.returncode, result.stderr.count("\n")), (2, 1))
+
+
+if __name__ == "__main__":
+    unittest.main()
