@@ -1,7 +1,7 @@
 #!/usr/bin/env python3
 """Wrong calculators against the stored sheets: does the kit tell each of them?
 
-    python3 conformance/mutants.py              each one, and the first two models that catch it
+    python3 conformance/mutants.py              a line for each, with the first two models that catch it
     python3 conformance/mutants.py --as NAME    behave as that calculator: model in, sheet out
 
 The wrong calculators stand in mistakes.py, each the reference with one thing changed. A stored
@@ -138,6 +138,14 @@ def judge_right(entry, files):
     return not caught
 
 
+def judge_equivalent(entry, files):
+    """Prints why no sheet can show the change; whether that is so for these models."""
+    right = judge_right(entry, files)
+    if right:
+        print(f"{entry.name}: left out, no sheet can show it: {entry.what}", flush=True)
+    return right
+
+
 def self_test(files):
     """Whether the trying itself is right: the reference passes, as a module and as a program, and a changed
     text that changes nothing is caught by none, and would be told."""
@@ -157,12 +165,13 @@ def judge_all():
     cheap = [file for file in files if cost(*file[1:])[0] < 10**6]
     right = self_test(files)
     wrong = [entry.name for entry in TABLE.values() if not judge(entry, files)]
-    same = [entry.name for entry in EQUIVALENT if not judge_right(entry, cheap)]
-    print(f"{len(EQUIVALENT) - len(same)} changes that no sheet can show, caught by none")
+    same = [entry.name for entry in EQUIVALENT if not judge_equivalent(entry, cheap)]
+    if same:
+        print(f"{len(same)} of {len(EQUIVALENT)} changes that no sheet can show are caught: {', '.join(same)}")
     if wrong:
         print(f"{len(wrong)} of {len(TABLE)} wrong calculators are caught by fewer than two models: {', '.join(wrong)}")
     else:
-        print(f"{len(TABLE)} wrong calculators, each caught by two models or more")
+        print(f"{len(TABLE)} wrong calculators, each caught by two models or more; {len(EQUIVALENT)} changes left out")
     return 0 if right and not wrong and not same else 1
 
 
