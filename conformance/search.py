@@ -133,6 +133,8 @@ def read_options(words):
     for name in (options.name, options.against or options.name):
         if name not in mutants.TABLE and (name not in SEARCHES or options.against):
             parser.error(f"no search and no wrong calculator is named {name}")
+    if options.family and options.name in SEARCHES and options.name != "half-ticks":
+        parser.error(f"{options.name} has its own family")
     return options
 
 
@@ -188,7 +190,7 @@ def run(options):
         for row in finds(search, options, k):
             if model_of(row) not in found:
                 found.append(model_of(row))
-                name = row.name or f"rounding-{options.name}-{len(found)}"
+                name = row.name or f"{'' if options.name in SEARCHES else 'rounding-'}{options.name}-{len(found)}"
                 print(shown(row._replace(name=name)), flush=True)
         if len(found) >= options.finds or time.monotonic() - start > options.seconds:
             break
