@@ -264,7 +264,7 @@ def self_test():
 
 def check():
     """Every row of edges.py: what it states holds, its try gives it; and the quick searches find what is stored."""
-    start, again = time.monotonic(), sum(1 for row in edges.EDGES if row.search)
+    start, kept = time.monotonic(), sum(1 for row in edges.EDGES if row.search)
     lines = list(self_test()) + [f"{row.name}: {line}" for row in edges.EDGES for line in troubles(row)]
     rows = {row.name: row for row in edges.EDGES}
     for words, names in QUICK:
@@ -272,8 +272,8 @@ def check():
         lines += [f"{name}: not found by search.py {words}" for name in names if model_of(rows[name]) not in found]
     for line in lines:
         print(line)
-    print(f"edges: {len(edges.EDGES)} rows, {again} given again by their tries, {len(QUICK)} searches run, "
-          f"{len(lines)} wrong, {time.monotonic() - start:.1f} seconds")
+    print(f"edges: {len(edges.EDGES)} rows tried, {kept} of them made again by their search, {len(QUICK)} short searches; "
+          f"{len(lines)} faults, {time.monotonic() - start:.1f} seconds")
     return 1 if lines else 0
 
 
