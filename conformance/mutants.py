@@ -4,10 +4,10 @@
     python3 conformance/mutants.py              each one, and the first two models that catch it
     python3 conformance/mutants.py --as NAME    behave as that calculator: model in, sheet out
 
-The wrong calculators stand in mistakes.py, each the reference with one thing changed. A model
-catches one when it prints another sheet than the stored one. An error counts too, and so does
-a program without an end: for every stored model a right calculator prints a sheet. Exit
-status: 0 when two models or more catch each, 1 when not, 2 when the run is not possible.
+The wrong calculators stand in mistakes.py, each the reference with one thing changed. A stored
+model catches one that prints another sheet for it, or none: for every model a right calculator
+prints a sheet, so a division by 0, or a program without an end, counts as caught. Exit status:
+0 when two models or more catch each, 1 when not, 2 when the run is not possible.
 """
 
 import contextlib
@@ -28,6 +28,7 @@ import runner  # noqa: E402
 from mistakes import EQUIVALENT, TABLE, Wrong  # noqa: E402
 
 ENOUGH = 2        # models that have to catch a wrong calculator
+STOPPED = (ArithmeticError, LookupError, ValueError)     # what its numbers may raise; other errors are in its text
 RIGHT = Wrong("reference", "nothing changed", (), None)
 
 
@@ -88,7 +89,7 @@ def called(entry):
     def fails(model, expected):
         try:
             return sheet(model) != expected
-        except (ArithmeticError, LookupError, ValueError):     # its numbers stop it: it prints no sheet
+        except STOPPED:
             return True
         except Exception as error:
             raise ValueError(f"{entry.name}: its text is wrong, not its numbers: {error}") from error
@@ -144,8 +145,8 @@ def self_test(files):
     same = mistakes.wrong("same", "r W + n V in place of n V + r W", (mistakes.MIX, "(r * w + n * v) // (n + r)"))
     right = judge_right(RIGHT, files) and judge_right(RIGHT._replace(time_limit=60), few)
     with contextlib.redirect_stdout(io.StringIO()) as said:
-        told = not judge(same, files[:-1])
-    if not told or "caught by none: fewer than two" not in said.getvalue():
+        told = not judge(same, files[:-1]) and "caught by none: fewer than two" in said.getvalue()
+    if not told:
         print("self-test: a change that changes nothing is taken for a wrong calculator")
     return right and told
 
@@ -170,7 +171,12 @@ def behave_as(name):
     known = {entry.name: entry for entry in (RIGHT, *TABLE.values(), *EQUIVALENT)}
     if name not in known:
         raise ValueError(f"no calculator is named {name}")
-    return module(known[name]).main([])
+    program = module(known[name])
+    try:
+        return program.main([])
+    except STOPPED as error:
+        print(f"{name}: stopped by its numbers: {error}", file=sys.stderr)
+        return 1
 
 
 def main(arguments):
