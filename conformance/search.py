@@ -272,8 +272,8 @@ def check():
         lines += [f"{name}: not found by search.py {words}" for name in names if model_of(rows[name]) not in found]
     for line in lines:
         print(line)
-    print(f"edges: {len(edges.EDGES)} rows tried, {kept} of them made again by their search, {len(QUICK)} short searches; "
-          f"{len(lines)} faults, {time.monotonic() - start:.1f} seconds")
+    print(f"edges: {len(edges.EDGES)} rows tried, {kept} of them made again by their search, {len(QUICK)} short "
+          f"searches; {len(lines)} faults, {time.monotonic() - start:.1f} seconds")
     return 1 if lines else 0
 
 
