@@ -48,7 +48,7 @@ def tails(X, least):
 def level_edges(X, options):
     """For one X and every n: the tolerances next to t * 10^9 / S(n), where t is within reach of its bound."""
     reach = options.within * BILLION
-    for n, t, S in tails(X, options.least):
+    for n, t, S in tails(X, options.least) if X <= MAX_X else ():
         epsilon, rest = divmod(t * BILLION, S)      # S * epsilon / 10^9 is t - rest / 10^9
         if epsilon < MAX_TOLERANCE and (rest <= reach or S - rest < reach + BILLION):
             for tolerance in (epsilon, epsilon + 1):

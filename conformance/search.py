@@ -133,6 +133,8 @@ def read_options(words):
     for name in (options.name, options.against or options.name):
         if name not in mutants.TABLE and (name not in SEARCHES or options.against):
             parser.error(f"no search and no wrong calculator is named {name}")
+    if options.family and options.name in SEARCHES and options.name != "half-ticks":
+        parser.error(f"{options.name} has its own family")
     return options
 
 
@@ -188,7 +190,7 @@ def run(options):
         for row in finds(search, options, k):
             if model_of(row) not in found:
                 found.append(model_of(row))
-                name = row.name or f"rounding-{options.name}-{len(found)}"
+                name = row.name or f"{'' if options.name in SEARCHES else 'rounding-'}{options.name}-{len(found)}"
                 print(shown(row._replace(name=name)), flush=True)
         if len(found) >= options.finds or time.monotonic() - start > options.seconds:
             break
@@ -262,7 +264,7 @@ def self_test():
 
 def check():
     """Every row of edges.py: what it states holds, its try gives it; and the quick searches find what is stored."""
-    start, again = time.monotonic(), sum(1 for row in edges.EDGES if row.search)
+    start, kept = time.monotonic(), sum(1 for row in edges.EDGES if row.search)
     lines = list(self_test()) + [f"{row.name}: {line}" for row in edges.EDGES for line in troubles(row)]
     rows = {row.name: row for row in edges.EDGES}
     for words, names in QUICK:
@@ -270,8 +272,8 @@ def check():
         lines += [f"{name}: not found by search.py {words}" for name in names if model_of(rows[name]) not in found]
     for line in lines:
         print(line)
-    print(f"edges: {len(edges.EDGES)} rows, {again} given again by their tries, {len(QUICK)} searches run, "
-          f"{len(lines)} wrong, {time.monotonic() - start:.1f} seconds")
+    print(f"edges: {len(edges.EDGES)} rows tried, {kept} of them made again by their search, {len(QUICK)} short "
+          f"searches; {len(lines)} faults, {time.monotonic() - start:.1f} seconds")
     return 1 if lines else 0
 
 
