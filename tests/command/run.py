@@ -3,14 +3,17 @@
 
     python3 tests/command/run.py
 
-Builds the program where it is missing or older than the crates. The tests that change files work on a copy of the
-repository. The last line is 'command: N tries, all as expected'; exit status 1 where one is not: each has its lines.
+Builds the program where the crates have changed since. The tests that change files work on a copy of the repository.
+The last line is 'command: N tries, all as expected'; exit status 1 where one is not: each has its lines.
 """
 
+import contextlib
 import os
 import pty
 import re
 import shutil
+import socket
+import struct
 import subprocess
 import sys
 import tempfile
@@ -69,9 +72,9 @@ def expect(what, found, wanted):
         faults.append(f"{what}\n  found:  {found}\n  wanted: {wanted}")
 
 
-def run(command, folder=ROOT, given=None, **settings):
+def run(command, folder=ROOT, fed=None, **settings):
     """Status, standard output and standard error of a shell command."""
-    how = {"input": given} if given is not None else {"stdin": subprocess.DEVNULL}
+    how = {"input": fed} if fed is not None else {"stdin": subprocess.DEVNULL}
     done = subprocess.run(["bash", "-c", command], cwd=folder, env={**os.environ, "ROOT": ROOT, **settings}, timeout=TIME_LIMIT,
                           stdout=subprocess.PIPE, stderr=subprocess.PIPE, check=False, **how)
     return done.returncode, done.stdout, done.stderr.decode()
@@ -88,15 +91,35 @@ def commands(room):
         expect(command, run(command, **places), (status, output, words))
 
 
+def given(descriptor, command="./calculate"):
+    """Status, standard output and standard error of a command whose standard input is an open descriptor."""
+    done = subprocess.run([command], cwd=ROOT, stdin=descriptor, stdout=subprocess.PIPE, stderr=subprocess.PIPE,
+                          timeout=TIME_LIMIT, check=False)
+    return done.returncode, done.stdout, done.stderr.decode()
+
+
 def terminal():
     """With no file given, the command does not wait for one to be typed."""
     ours, theirs = pty.openpty()
-    done = subprocess.run(["./calculate"], cwd=ROOT, stdin=theirs, stdout=subprocess.PIPE, stderr=subprocess.PIPE,
-                          timeout=TIME_LIMIT, check=False)
+    expect("./calculate on a terminal", given(theirs),
+           (2, b"", "calculate: no model file; one is read from standard input: ./calculate < FILE\n"))
     os.close(ours)
     os.close(theirs)
-    expect("./calculate on a terminal", (done.returncode, done.stdout, done.stderr),
-           (2, b"", b"calculate: no model file; one is read from standard input: ./calculate < FILE\n"))
+
+
+def broken_off():
+    """An input that fails after its first bytes: a pipe that would have to be waited for, a connection that is reset."""
+    reader, writer = os.pipe()
+    os.set_blocking(reader, False)
+    os.write(writer, bytes(10))
+    expect("a pipe that is not ready", given(reader), (2, b"", UNREADABLE))
+    os.close(reader)
+    os.close(writer)
+    with socket.create_server(("127.0.0.1", 0)) as server, socket.create_connection(server.getsockname()) as ours:
+        theirs, _ = server.accept()
+        theirs.setsockopt(socket.SOL_SOCKET, socket.SO_LINGER, struct.pack("ii", 1, 0))
+        theirs.close()
+        expect("a connection that is reset", given(ours.fileno()), (2, b"", UNREADABLE))
 
 
 def format_page():
@@ -106,7 +129,7 @@ def format_page():
     rows = re.findall(r"^\| (\d+) \| ([^|]*) \| [^|]* \| ([^|]*)\|$", page, re.M)
     expect("rules in docs/FORMAT.md", [int(row[0]) for row in rows], list(range(1, 14)))
     for rule, words, example in rows[:12]:
-        found = run("./calculate", given=bytes.fromhex(example.strip(" `")))
+        found = run("./calculate", fed=bytes.fromhex(example.strip(" `")))
         expect(f"the example of rule {rule}", found,
                (1, f"refused {rule}\n".encode(), f"calculate: rule {rule}: {words} (docs/FORMAT.md)\n"))
     program = re.search(r"^```python\n(.*?)^```", page, re.M | re.S)[1]
@@ -115,10 +138,13 @@ def format_page():
 
 
 def copied(room):
-    """A copy of the repository with what is proved so far."""
+    """A copy of what the commands need, with what ./build has proved."""
     copy = os.path.join(room, "a copy")
-    skipped = shutil.ignore_patterns(".git", "must-fail", "inc", "files", "__pycache__")
-    shutil.copytree(ROOT, copy, symlinks=True, ignore=skipped)
+    os.makedirs(os.path.join(copy, "target"))
+    for name in ("build", "calculate", "crates.txt"):
+        shutil.copy(os.path.join(ROOT, name), copy)
+    for name in ("crates", "docs", "examples", "target/build", "target/built"):
+        shutil.copytree(os.path.join(ROOT, name), os.path.join(copy, name))
     return copy
 
 
@@ -143,9 +169,10 @@ def stale(copy):
     log = os.path.join(copy, "target", "build-calculator.log")
     expect("an edit that the prover refuses", (status, output), (2, b""))
     expect("its reason", re.sub(r", \d+ s", "", words.splitlines()[-1]),
-           f"build: no calculator: sheet NOT PROVED (exit 1); all that the prover said is in {log}")
+           f"build: no calculator: sheet NOT PROVED (exit 1); all that the prover said is in {log} "
+           f"(to start from nothing, remove {copy}/target/build)")
     with open(log, encoding="utf-8") as source:
-        expect("its log", "crates/sheet/proofs/" in source.read(), True)
+        expect("its log", f"{copy}/crates/sheet/proofs/" in source.read(), True)
     expect("the same without the toolchain", run("PATH=/usr/bin:/bin; " + command, copy),
            (2, b"", "build: no calculator: it is made from the crates by rt, the Rattle toolchain, which is not on this machine\n"))
     edit(sheet, 'b"Level "', 'b"level "')
@@ -167,48 +194,117 @@ def rebuilt(copy):
     expect("the edited program again", run("./calculate < /", copy), (2, b"", "calculator: the input is unreadable\n"))
 
 
-# Stands in for rt where the toolchain's own work does not matter: it notes each call and makes a program.
+# Stands in for rt where the toolchain's own work does not matter: it keeps the last line of crates.txt for each call,
+# and hands a program over.
 STAND_IN = """#!/bin/sh
-echo called >> "$CALLS"
-sleep 1
+sleep $DELAY
 mkdir -p target/bin
 cp "$PROGRAM" target/bin/calculator
 eval "$MEANWHILE"
-echo "rt: calculator proved (1 s)"
+tail -n 1 crates.txt >> "$CALLS"
+echo "$SAYS"
 exit $STATUS
 """
+DIES = "#!/bin/sh\necho level 3\nkill -9 $$\n"
 
 
-def with_stand_in(room, copy):
-    """What ./build does around rt: crates that change meanwhile, two builds at once, no room to write, rt that fails."""
-    bin_folder, calls = os.path.join(room, "bin"), os.path.join(room, "calls")
-    os.mkdir(bin_folder)
-    with open(os.path.join(bin_folder, "rt"), "w", encoding="utf-8") as target:
-        target.write(STAND_IN)
-    os.chmod(os.path.join(bin_folder, "rt"), 0o755)
-    settings = {"PATH": bin_folder + ":" + os.environ["PATH"], "CALLS": calls, "MEANWHILE": "", "STATUS": "0",
-                "PROGRAM": run("./build calculator")[1].decode().strip()}
+class StandIn:
+    """./calculate in the copy, from nothing, with the stand-in for rt."""
 
-    def fresh():
-        shutil.rmtree(os.path.join(copy, "target"))
-        open(calls, "w", encoding="utf-8").close()
+    def __init__(self, room, copy):
+        self.copy, self.calls, self.dies = copy, os.path.join(room, "calls"), os.path.join(room, "dies")
+        for path, text in ((os.path.join(room, "bin", "rt"), STAND_IN), (self.dies, DIES)):
+            os.makedirs(os.path.dirname(path), exist_ok=True)
+            with open(path, "w", encoding="utf-8") as target:
+                target.write(text)
+            os.chmod(path, 0o755)
+        self.settings = {"PATH": os.path.join(room, "bin") + ":" + os.environ["PATH"], "CALLS": self.calls, "COPY": copy,
+                         "DELAY": "0", "MEANWHILE": "", "SAYS": "rt: calculator proved (1 s)", "STATUS": "0",
+                         "PROGRAM": run("./build calculator")[1].decode().strip()}
+        self.fresh()
 
-    fresh()
-    status, output, words = run("./calculate < examples/B.model", copy, **{**settings, "MEANWHILE": "echo >> crates.txt"})
-    expect("crates that change while they are proved", (status, output, words.splitlines()[-1]),
-           (2, b"", "build: no calculator: the crates changed while they were proved; try again"))
-    fresh()
-    both = "./calculate < examples/B.model & ./calculate < examples/B.model; wait"
-    status, output, words = run(both, copy, **settings)
-    with open(calls, encoding="utf-8") as source:
-        expect("two builds at once", (status, output, source.read()), (0, B + B, "called\n"))
-    fresh()
-    status, output, words = run("./calculate < examples/B.model", copy, **{**settings, "STATUS": "2"})
-    expect("an rt that fails", (status, output), (2, b""))
-    fresh()
-    open(os.path.join(copy, "target"), "w", encoding="utf-8").close()
-    expect("no folder to write to", run("./calculate < examples/B.model", copy, **settings),
-           (2, b"", f"build: no calculator: cannot write to {copy}/target\n"))
+    def path(self, *names):
+        return os.path.join(self.copy, *names)
+
+    def fresh(self):
+        """Nothing is made, and rt was never called."""
+        shutil.rmtree(self.path("target"), ignore_errors=True)
+        with contextlib.suppress(OSError):
+            os.remove(self.calls)
+
+    def run(self, command="./calculate < examples/B.model", **settings):
+        return run(command, self.copy, **{**self.settings, **settings})
+
+    def called(self):
+        """The lines of crates.txt that rt has seen, one for each call."""
+        if not os.path.exists(self.calls):
+            return []
+        with open(self.calls, encoding="utf-8") as source:
+            return source.read().splitlines()
+
+
+def write(path, text):
+    with open(path, "a", encoding="utf-8") as target:
+        target.write(text)
+
+
+def what_counts(stand):
+    """Every file that is proved counts, whatever its kind; an edit that the prover must refuse does not."""
+    link = stand.path("link.antt")
+    shutil.move(stand.path("crates/laws/specs/Rounding.antt"), link)
+    os.symlink(link, stand.path("crates/laws/specs/Rounding.antt"))
+    steps = [("nothing", lambda: None, 1), ("nothing again", lambda: None, 1), ("a proof", lambda: write(link, "-- \n"), 2),
+             ("a stored run", lambda: write(stand.path("crates/calculator/stdin"), " "), 3),
+             ("a new file", lambda: write(stand.path("crates/sheet/src/new.rt"), "// \n"), 4),
+             ("a file less", lambda: os.remove(stand.path("crates/sheet/src/new.rt")), 4),
+             ("an edit to be refused", lambda: write(stand.path("crates/sheet/must-fail/new.edit"), "# \n"), 4),
+             ("the list of crates", lambda: write(stand.path("crates.txt"), "# more\n"), 5)]
+    for what, change, calls in steps:
+        change()
+        expect(f"{what} changed", (stand.run()[:2], len(stand.called())), ((0, B), calls))
+
+
+def while_building(stand):
+    """An edit in the minutes of a proof has no part in it, also where it is undone; two builds at once are one."""
+    stand.fresh()
+    last = stand.run("tail -n 1 crates.txt")[1].decode().strip()
+    meanwhile = "echo '# meanwhile' >> \"$COPY/crates.txt\""
+    expect("an edit meanwhile", (stand.run(MEANWHILE=meanwhile)[:2], stand.called()), ((0, B), [last]))
+    expect("the call after it", (stand.run()[:2], stand.called()), ((0, B), [last, "# meanwhile"]))
+    stand.fresh()
+    both = "./calculate < examples/B.model > other & ./calculate < examples/B.model; wait $! && cat other"
+    expect("two at once", (stand.run(both, DELAY="1")[:2], len(stand.called())), ((0, B + B), 1))
+    stand.fresh()
+    failing = stand.run(both, DELAY="1", STATUS="1", SAYS="rt: sheet NOT PROVED (exit 1, 1 s)")
+    lines = [line for line in failing[2].splitlines() if line.startswith("build: no calculator: sheet NOT PROVED (exit 1, 1 s); ")]
+    expect("two at once that fail", (failing[:2], len(lines)), ((2, b""), 2))
+
+
+def in_trouble(stand):
+    """What cannot be made, kept or run gives a line and status 2."""
+    stand.fresh()
+    status, output, words = stand.run(STATUS="2", SAYS="rt: no toolchain here")
+    expect("an rt that fails", (status, output, "build: no calculator: no toolchain here; " in words), (2, b"", True))
+    os.makedirs(stand.path("target/build/target/stamp"), exist_ok=True)
+    shutil.rmtree(stand.path("target/build/target/bin"))
+    write(stand.path("target/build/target/stamp/calculator"), "kept")
+    expect("a stamp without its program", stand.run()[:2], (0, B))
+    expect("that stamp", os.path.exists(stand.path("target/build/target/stamp/calculator")), False)
+    os.truncate(stand.run("./build calculator")[1].decode().strip(), 0)
+    expect("an empty program", stand.run()[:2], (0, B))
+    stand.fresh()
+    expect("a program that is ended", stand.run(PROGRAM=stand.dies)[::2][0], 2)
+    expect("its words", stand.run(PROGRAM=stand.dies)[1:], (b"", "calculate: the program ended with status 137\n"))
+    stand.fresh()
+    write(stand.path("target"), "")
+    expect("no folder to write to", stand.run(), (2, b"", f"build: no calculator: cannot write to {stand.copy}/target\n"))
+    os.remove(stand.path("target"))
+    os.remove(stand.path("docs/FORMAT.md"))
+    stand.run()
+    expect("no page of rules", stand.run("./calculate < /dev/null"),
+           (1, b"refused 1\n", "calculate: rule 1: a row of the table (docs/FORMAT.md)\n"))
+    os.remove(stand.path("crates.txt"))
+    expect("no list of crates", stand.run()[2].splitlines()[-1], "build: no calculator: the crates cannot be read")
 
 
 def main():
@@ -216,11 +312,15 @@ def main():
         room = os.path.realpath(room)
         commands(room)
         terminal()
+        broken_off()
         format_page()
         copy = copied(room)
         stale(copy)
         rebuilt(copy)
-        with_stand_in(room, copy)
+        stand = StandIn(room, copy)
+        what_counts(stand)
+        while_building(stand)
+        in_trouble(stand)
     for fault in faults:
         print(fault)
     if faults:

@@ -2,17 +2,43 @@
 use libc::STDERR_FILENO;
 use libc::STDIN_FILENO;
 use libc::STDOUT_FILENO;
+ghost use Prim.Native.Nat.{_≤_};
+ghost use lib.ListN.{length};
 
-// Whether standard input has ended: one more read does not fail, and gives nothing.
-fn has_ended() -> bool {
-    let mut one = [0u8; 1];
-    libc::read(STDIN_FILENO, &mut one) == 0
+// What came of standard input: so many bytes, or a read that failed.
+enum Input {
+    Bytes(usize),
+    Unreadable,
 }
 
-// Prints the sheet of the first `count` bytes of the input.
-fn print_sheet(input: &[u8; report::LIMIT], count: usize) {
+// One read of standard input, to the buffer's bytes from `from` on.
+fn read_part(buffer: &mut [u8], from: usize) -> isize
+    requires { ⌜ from ≤ length (now buffer) ⌝ }
+{
+    libc::read(STDIN_FILENO, &mut buffer[from..])
+}
+
+// Reads standard input until it ends or the buffer is full.
+fn read_input(buffer: &mut [u8]) -> Input {
+    let mut count = 0;
+    while count < buffer.len() {
+        let got = read_part(buffer, count);
+        let more = io::count(got, &buffer[count..]);
+        if got < 0 {
+            return Input::Unreadable;
+        }
+        if more == 0 {
+            break;
+        }
+        count += more;
+    }
+    Input::Bytes(count)
+}
+
+// Prints the sheet of the first `count` bytes of the buffer.
+fn print_sheet(buffer: &[u8; report::LIMIT], count: usize) {
     let mut out = [0u8; report::ROOM];
-    let length = report::report(input, count, &mut out);
+    let length = report::report(buffer, count, &mut out);
     if !io::write_all(STDOUT_FILENO, &out[..length]) {
         io::write_all(
             STDERR_FILENO,
@@ -22,11 +48,11 @@ fn print_sheet(input: &[u8; report::LIMIT], count: usize) {
 }
 
 fn main() {
-    let mut input = [0u8; report::LIMIT];
-    let count = io::read_full(STDIN_FILENO, &mut input);
-    if count < report::LIMIT && !has_ended() {
-        io::write_all(STDERR_FILENO, b"calculator: the input cannot be read\n");
-    } else {
-        print_sheet(&input, count);
+    let mut buffer = [0u8; report::LIMIT];
+    match read_input(&mut buffer) {
+        Input::Bytes(count) => print_sheet(&buffer, count),
+        Input::Unreadable => {
+            io::write_all(STDERR_FILENO, b"calculator: the input cannot be read\n");
+        }
     }
 }
