@@ -1,4 +1,5 @@
-/* The library called from C: reads a model file from standard input and prints its sheet, as the program does.
+/* The library called from C: reads a model file from standard input and prints its sheet.
+ * Exit status 0 for an accepted file, 1 for a refused one, 2 where it cannot be read or written.
  *
  *     cc -I include examples/library/call.c "$(./build kuldrepso)" -o target/call
  *     target/call < examples/B.model
@@ -13,11 +14,15 @@ int main(void)
     static uint8_t file[KULDREPSO_MOST_BYTES + 1];
     static uint64_t cells[KULDREPSO_MOST_CELLS];
     size_t count = fread(file, 1, sizeof file, stdin);
+    if (ferror(stdin)) {
+        perror("call");
+        return 2;
+    }
     uint64_t answer = kuldrepso_calculate(file, count, cells, KULDREPSO_MOST_CELLS);
 
     if (answer >= KULDREPSO_REFUSED) {
         printf("refused %" PRIu64 "\n", answer - KULDREPSO_REFUSED);
-        return 1;
+        return fflush(stdout) ? 2 : 1;
     }
     printf("level %" PRIu64 "\n", answer);
     int states = file[3], highest = file[4];
@@ -27,5 +32,5 @@ int main(void)
             printf("%d %d %" PRIu64 ".%012" PRIu64 "\n", i, r, moment / KULDREPSO_ONE, moment % KULDREPSO_ONE);
         }
     }
-    return 0;
+    return fflush(stdout) ? 2 : 0;
 }

@@ -1,8 +1,10 @@
-// The library called from Rust: reads a model file from standard input and prints its sheet, as the program does.
+// The library called from Rust: reads a model file from standard input and prints its sheet.
+// Exit status 0 for an accepted file, 1 for a refused one or where it cannot be read or written.
 //
 //     rustc --edition 2021 examples/library/call.rs -L native="$(dirname "$(./build kuldrepso)")" -l static=kuldrepso -o target/call
 //     target/call < examples/B.model
-use std::io::{stdin, Read};
+use std::io::{stdin, stdout, Read, Write};
+use std::process::ExitCode;
 
 extern "C" {
     fn kuldrepso_calculate(file: *const u8, file_length: usize, cells: *mut u64, cell_count: usize) -> u64;
@@ -14,22 +16,30 @@ const ONE: u64 = 1_000_000_000_000;
 /// The level, with the moments in the cells; or the number of the rule that stops the file, and no cell changes.
 fn calculate(file: &[u8], cells: &mut [u64]) -> Result<u64, u64> {
     let answer = unsafe { kuldrepso_calculate(file.as_ptr(), file.len(), cells.as_mut_ptr(), cells.len()) };
-    if answer < REFUSED { Ok(answer) } else { Err(answer - REFUSED) }
+    if answer < REFUSED {
+        Ok(answer)
+    } else {
+        Err(answer - REFUSED)
+    }
 }
 
-fn main() -> std::io::Result<()> {
+fn main() -> std::io::Result<ExitCode> {
     let mut file = Vec::new();
     stdin().take(16_398).read_to_end(&mut file)?;
     let mut cells = [0; 512];
+    let mut out = stdout();
     match calculate(&file, &mut cells) {
-        Err(rule) => println!("refused {rule}"),
+        Err(rule) => {
+            writeln!(out, "refused {rule}")?;
+            Ok(ExitCode::FAILURE)
+        }
         Ok(level) => {
-            println!("level {level}");
+            writeln!(out, "level {level}")?;
             let (states, highest) = (file[3] as usize, file[4] as usize);
             for (k, moment) in cells[..states * highest].iter().enumerate() {
-                println!("{} {} {}.{:012}", k / highest + 1, k % highest + 1, moment / ONE, moment % ONE);
+                writeln!(out, "{} {} {}.{:012}", k / highest + 1, k % highest + 1, moment / ONE, moment % ONE)?;
             }
+            Ok(ExitCode::SUCCESS)
         }
     }
-    Ok(())
 }

@@ -37,6 +37,8 @@ COMMANDS = [
     ("cd \"$EMPTY\" && PATH=$ROOT:$PATH calculate < \"$ROOT\"/examples/B.model", 0, B, ""),
     ("CDPATH=/ ./calculate < examples/B.model", 0, B, ""),
     ("echo '00 0F 01 01 01 00 00 27 10 00 00 00 01 00 00 00 05' | xxd -r -p | ./calculate", 0, A, ""),
+    ("echo '00 0F 01 01 01 00 00 27 10 00 00 00 01 00 00 00 05' | "
+     "python3 -c 'import sys; sys.stdout.buffer.write(bytes.fromhex(sys.stdin.read()))' | ./calculate", 0, A, ""),
     ("./calculate < examples/B.model 2>&-", 0, B, ""),
     ("./calculate < examples/B.model > /dev/full", 2, b"", NOT_WHOLE),
     ("./calculate < /dev/null > /dev/full", 2, b"", NOT_WHOLE),
@@ -88,7 +90,8 @@ def commands(room):
     os.symlink(os.path.join(ROOT, "calculate"), os.path.join(room, "link"))
     os.symlink("link", places["LINK"])
     for command, status, output, words in COMMANDS:
-        expect(command, run(command, **places), (status, output, words))
+        if "xxd" not in command or shutil.which("xxd"):
+            expect(command, run(command, **places), (status, output, words))
 
 
 def given(descriptor, command="./calculate"):
@@ -159,29 +162,9 @@ def edit(path, old, new):
     os.utime(path, ns=(times.st_atime_ns, times.st_mtime_ns))
 
 
-def stale(copy):
-    """After an edit the old digits never come out: the answer is that of the crates, or there is none."""
-    command = "./calculate < examples/B.model"
-    sheet = os.path.join(copy, "crates", "sheet", "src", "lib.rt")
-    expect("a copy", run(command, copy), (0, B, ""))
-    edit(sheet, 'b"level "', 'b"Level "')
-    status, output, words = run(command, copy)
-    log = os.path.join(copy, "target", "build-calculator.log")
-    expect("an edit that the prover refuses", (status, output), (2, b""))
-    expect("its reason", re.sub(r", \d+ s", "", words.splitlines()[-1]),
-           f"build: no calculator: sheet NOT PROVED (exit 1); all that the prover said is in {log} "
-           f"(to start from nothing, remove {copy}/target/build)")
-    with open(log, encoding="utf-8") as source:
-        expect("its log", f"{copy}/crates/sheet/proofs/" in source.read(), True)
-    expect("the same without the toolchain", run("PATH=/usr/bin:/bin; " + command, copy),
-           (2, b"", "build: no calculator: it is made from the crates by rt, the Rattle toolchain, which is not on this machine\n"))
-    edit(sheet, 'b"Level "', 'b"level "')
-    expect("the edit undone", run(command, copy), (0, B, ""))
-    expect("the edit undone, without the toolchain", run("PATH=/usr/bin:/bin; " + command, copy), (0, B, ""))
-
-
 def rebuilt(copy):
-    """An edit that the prover accepts is answered from; each crate has its line."""
+    """After an edit that the prover accepts the answer is that of the crates; each crate has its line."""
+    expect("a copy", run("./calculate < examples/B.model", copy), (0, B, ""))
     edit(os.path.join(copy, "crates", "calculator", "src", "main.rt"), "the input cannot be read", "the input is unreadable")
     status, output, words = run("./calculate < /", copy)
     lines = words.splitlines()
@@ -194,9 +177,39 @@ def rebuilt(copy):
     expect("the edited program again", run("./calculate < /", copy), (2, b"", "calculator: the input is unreadable\n"))
 
 
+def without_rt(room):
+    """A PATH with the system's tools that ./calculate uses, and no rt."""
+    folder = os.path.join(room, "no rt")
+    os.mkdir(folder)
+    for tool in ("bash", "cut", "env", "find", "readlink", "sed", "sha256sum", "sort"):
+        os.symlink(shutil.which(tool), os.path.join(folder, tool))
+    return folder
+
+
+def stale(room, copy):
+    """After an edit that the prover refuses there is no answer, and the old digits do not come out."""
+    command, no_rt = "./calculate < examples/B.model", without_rt(room)
+    sheet = os.path.join(copy, "crates", "sheet", "src", "lib.rt")
+    edit(sheet, 'b"level "', 'b"Level "')
+    status, output, words = run(command, copy)
+    log = os.path.join(copy, "target", "build-calculator.log")
+    expect("an edit that the prover refuses", (status, output), (2, b""))
+    expect("its reason", re.sub(r", \d+ s", "", words.splitlines()[-1]),
+           f"build: no calculator: sheet NOT PROVED (exit 1); all that the prover said is in {log} "
+           f"(to start from nothing, remove {copy}/target/build)")
+    with open(log, encoding="utf-8") as source:
+        expect("its log", f"{copy}/crates/sheet/proofs/" in source.read(), True)
+    expect("the same without the toolchain", run(command, copy, PATH=no_rt),
+           (2, b"", "build: no calculator: it is made from the crates by rt, the Rattle toolchain, which is not on this machine\n"))
+    edit(sheet, 'b"Level "', 'b"level "')
+    expect("the edit undone", run(command, copy), (0, B, ""))
+    expect("the edit undone, without the toolchain", run(command, copy, PATH=no_rt), (0, B, ""))
+
+
 # Stands in for rt where the toolchain's own work does not matter: it keeps the last line of crates.txt for each call,
-# and hands a program over.
+# and hands a program over. It would swallow a model file that it is given.
 STAND_IN = """#!/bin/sh
+cat > /dev/null
 sleep $DELAY
 mkdir -p target/bin
 cp "$PROGRAM" target/bin/calculator
@@ -315,8 +328,8 @@ def main():
         broken_off()
         format_page()
         copy = copied(room)
-        stale(copy)
         rebuilt(copy)
+        stale(room, copy)
         stand = StandIn(room, copy)
         what_counts(stand)
         while_building(stand)
