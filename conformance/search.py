@@ -71,10 +71,10 @@ def half_ticks(row, options):
 
 
 def printed(module, row):
-    """The sheet that a calculator prints for a row, or None where it ends with an error."""
+    """The sheet that a calculator prints for a row, or None where its numbers stop it."""
     try:
         return module.sheet(built(row))
-    except Exception:        # whatever stops it, it prints no sheet
+    except mutants.STOPPED:
         return None
 
 
