@@ -76,6 +76,8 @@ def printed(module, row):
         return module.sheet(built(row))
     except mutants.STOPPED:
         return None
+    except Exception as error:
+        raise ValueError(f"{module.__name__}: its text is wrong, not its numbers: {error}") from error
 
 
 def other_sheet(row, options):
@@ -294,7 +296,7 @@ def main(words):
         if words == ["--check"]:
             return check()
         return run(read_options(words))
-    except ValueError as error:        # an old text of mistakes.py that is not in the reference
+    except ValueError as error:        # a text of mistakes.py that is wrong
         print(f"search.py: {error}", file=sys.stderr)
         return 2
 
