@@ -123,11 +123,21 @@ def one_of_three():
         yield f"border-row-sum-10000000-state-{state}-of-3", three_states(rates=met, T=1)
 
 
+def two_of_three():
+    """Two rows of the refusal table broken in different states, the one that counts behind the other."""
+    for state in (2, 3):
+        rewards = [1_000_001 if k == state else 7 for k in (1, 2, 3)]
+        rates = [(5_000_000, 5_000_001) if k == state else (1_000_000, 2_000_000) for k in (1, 2, 3)]
+        yield f"refused-09-before-11-state-{state}-of-3", three_states(rewards, ((10_000_001, 0), (1, 2), (1, 2)))
+        yield f"refused-11-before-12-state-{state}-of-3", three_states(rates=rates)
+
+
 def past_32_bits():
     """Row sums and products at and past 2^31 and 2^32, small or below 0 in 32 bits."""
     for total in (2**31, 2**32, 2**32 + 5_000_000):
         row = (total // 2, total - total // 2)
         yield f"refused-11-row-sum-{total}", three_states(rates=(row, (1, 2), (3, 4)), T=1)
+    yield f"refused-11-row-sum-{2**32 + 1}", three_states(rates=((2**32 - 1, 2), (1, 2), (3, 4)), T=1)
     for E, T in ((2**16, 2**15), (2**16, 2**16), (10_000_000, 430)):
         yield f"refused-12-product-{E * T}", models.build(1, 2, 1, 1_000, T, [1, 0], [[E], [1]])
 
@@ -186,6 +196,13 @@ def jump_counts():
         yield f"q-millionths-{E * T:09d}-rate-{E}", models.build(1, 2, 3, 1, T, [5, 2], [[E], [E // 3]])
 
 
+def below_whole():
+    """X one below a whole q, which is that q in binary32: taking the whole one for m changes a printed digit."""
+    for X, reward in ((16_999_999, 118), (63_999_999, 585), (255_999_999, 44)):
+        E, T = models.factors(X)
+        yield f"q-millionths-{X:09d}", models.build(1, 2, 8, 1_000, T, [reward, 1_000], [[E], [E // 3]])
+
+
 def tolerances():
     """One model over the range of tolerances."""
     for power in range(9):
@@ -220,9 +237,9 @@ def kinds():
 
 
 def all_files():
-    for group in (hand_checked, borders, pairs, least_pairs, one_of_three, past_32_bits, lengths, read_limit,
-                  byte_values, most_moments, near_rewards, moments, states, jump_counts, tolerances, figures,
-                  edge_files, kinds):
+    for group in (hand_checked, borders, pairs, least_pairs, one_of_three, two_of_three, past_32_bits, lengths,
+                  read_limit, byte_values, most_moments, near_rewards, moments, states, jump_counts, below_whole,
+                  tolerances, figures, edge_files, kinds):
         yield from group()
 
 

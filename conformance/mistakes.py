@@ -8,6 +8,7 @@ TABLE holds the mistakes; EQUIVALENT the changes that no sheet can show, each wi
 import math
 import os
 import signal
+import struct
 import sys
 from collections import namedtuple
 
@@ -46,6 +47,7 @@ TAIL = "1 + " + T_QUOTIENT
 FROM_Q = "n * MILLION >= X and "
 T_TEST = "tail(w, X, n) <= S * epsilon // BILLION"
 BOUND = "S * epsilon // BILLION"
+SUM_S = "        S += w[n]\n"
 LEVEL_FOUND = "            return n\n"
 A = "sum(w[n] * U[n][r][i] // ONE for n in range(N + 1))"
 TERM = "w[n] * U[n][r][i] // ONE"
@@ -87,6 +89,19 @@ def even(a, b):
 def binary64(a, b, c):
     """a * b / c in binary64, cut to a whole number."""
     return int(float(a) * float(b) / float(c))
+
+
+def binary32(a):
+    """A number rounded to binary32."""
+    return struct.unpack("f", struct.pack("f", a))[0]
+
+
+def extended(a, b, c):
+    """a * b / c with 64 significant bits (long double on many machines), cut to a whole number."""
+    unit = 2**max(0, (a * b).bit_length() - 64)
+    product = even(a * b, unit) * unit
+    places = 64 - (product // c).bit_length()
+    return even(product << places, c) >> places
 
 
 def digits15(a):
@@ -174,6 +189,26 @@ def row_holds(row, file):
     }[row]
 
 
+def row_by_row(rates, T):
+    """Rows 11 and 12 tested on one state's rates after the other: the number of the first that holds, or 0."""
+    for row in rates:
+        if sum(row) > 10_000_000:
+            return 11
+        if (sum(row) or 1) * T > 256_000_000:
+            return 12
+    return 0
+
+
+def state_by_state(f, rates):
+    """Rows 9 and 11 tested on one state after the other: the number of the first that holds, or 0."""
+    for reward, row in zip(f, rates):
+        if reward > 1_000_000:
+            return 9
+        if sum(row) > 10_000_000:
+            return 11
+    return 0
+
+
 def as_binary64(ticks):
     """The ticks of a figure taken from its value in binary64, cut to a whole number."""
     return int(ticks / 10**12 * 10**12)
@@ -196,8 +231,9 @@ def read_pieces(stream, size, most, enough=lambda file: False):
     return file
 
 
-HELPERS = (math.comb, up, nearest, even, binary64, digits15, signed, signed_bytes, by_columns, overwritten,
-           unless_still, poisson, e_to_q, relation_10, exponent, as_binary64, crash, row_holds, read_pieces)
+HELPERS = (math.comb, up, nearest, even, binary64, binary32, extended, digits15, signed, signed_bytes, by_columns,
+           overwritten, unless_still, poisson, e_to_q, relation_10, exponent, as_binary64, crash, row_holds,
+           row_by_row, state_by_state, read_pieces)
 
 
 # --- The model file --------------------------------------------------------------------------------
@@ -337,6 +373,12 @@ REFUSAL_TABLE = [
     border(11, "32-bit", "row sums in 32 bits", "max(sum(row) % 2**32 for row in rates) > 10_000_000"),
     border(11, "32-bit-signed", "row sums in 32 bits with a sign",
            "max(signed(sum(row), 32) for row in rates) > 10_000_000"),
+    border(11, "sign-extended", "rates in 32 bits with a sign, summed in 64 bits",
+           "max(sum(signed(a, 32) for a in row) % 2**64 for row in rates) > 10_000_000"),
+    wrong("rows-09-and-11-state-by-state", "rows 9 and 11 tested on one state after the other", (f"    if {ROWS[9]}:",
+          f"    if k := state_by_state(f, read_rates(file, M)):\n        return k\n    if {ROWS[9]}:")),
+    wrong("rows-11-and-12-row-by-row", "rows 11 and 12 tested on one state's rates after the other",
+          (f"    if {ROWS[11]}:", f"    if k := row_by_row(rates, T):\n        return k\n    if {ROWS[11]}:")),
     border(11, "absorbing", "a state without rates refused", "min(map(sum, rates)) == 0 or " + ROWS[11]),
     border(12, "at-256000000", "a product of 256,000,000 refused", ROWS[12].replace(">", ">=")),
     border(12, "at-256000001", "a product of 256,000,001 let through", ROWS[12].replace("000_000", "000_001")),
@@ -436,6 +478,10 @@ WEIGHT_LIST = [
     *rounded("weights-left", "weights left of m", LEFT, "w[n] * n * MILLION, X"),
     wrong("weights-right-binary64", "weights right of m in binary64", (RIGHT, "binary64(w[n], X, (n + 1) * MILLION)")),
     wrong("weights-left-binary64", "weights left of m in binary64", (LEFT, "binary64(w[n], n * MILLION, X)")),
+    wrong("weights-right-extended", "weights right of m with 64 significant bits",
+          (RIGHT, "extended(w[n], X, (n + 1) * MILLION)")),
+    wrong("weights-left-extended", "weights left of m with 64 significant bits",
+          (LEFT, "extended(w[n], n * MILLION, X)")),
     wrong("weights-right-64-bit", "w(n) X in 64 bits", (RIGHT, "w[n] * X % 2**64 // ((n + 1) * MILLION)")),
     wrong("weights-left-64-bit", "w(n) n 1,000,000 in 64 bits", (LEFT, "w[n] * n * MILLION % 2**64 // X")),
     wrong("weights-left-first-divided", "leftward, w(n) n divided before it is multiplied",
@@ -453,6 +499,7 @@ WEIGHT_LIST = [
           ("        w[n - 1] = " + LEFT, f"        w[n - 1] = {LEFT} if w[n] >= 1000 else 0")),
     wrong("m-up", "m is q rounded up", (WEIGHTS_M, "m = up(X, MILLION)\n    w = "),
           (TAIL_M, "m = up(X, MILLION)\n    return 1 ")),
+    wrong("m-binary32", "m from q in binary32", (WEIGHTS_M, "m = int(binary32(binary32(X) / 10**6))\n    w = ")),
     wrong("m-nearest", "m is q rounded to the nearest", (WEIGHTS_M, "m = nearest(X, MILLION)\n    w = "),
           (TAIL_M, "m = nearest(X, MILLION)\n    return 1 ")),
 ]
@@ -468,12 +515,19 @@ LEVEL = [
           (TAIL, TAIL.replace("n + 1", "n + 2"))),
     *rounded("t", "t's quotient", T_QUOTIENT, "(w[n] + n - m) * X, (n + 1) * MILLION - X"),
     wrong("t-binary64", "t's quotient in binary64", (TAIL, "1 + binary64(w[n] + n - m, X, (n + 1) * MILLION - X)")),
+    wrong("t-binary64-q", "t's quotient in binary64, with q for X",
+          (TAIL, "1 + int((w[n] + n - m) * (X / 1e6) / (n + 1 - X / 1e6))")),
     wrong("t-64-bit", "t's product in 64 bits", (TAIL, TAIL.replace("* X //", "* X % 2**64 //"))),
     wrong("t-is-the-tail", "t is the sum of the weights right of n", (TAIL, "sum(w[n + 1:])")),
     wrong("t-is-the-next-weight", "t is the weight right of n", (TAIL, "w[n + 1] if n < LEVEL_LIMIT else 0")),
     wrong("t-below-its-bound", "t < its bound in place of t <= it", (T_TEST, T_TEST.replace("<=", "<"))),
     *rounded("bound", "S(n) epsilon / 10^9", BOUND, "S * epsilon, BILLION"),
     wrong("bound-binary64", "S(n) epsilon / 10^9 in binary64", (BOUND, "binary64(S, epsilon, BILLION)")),
+    wrong("bound-binary64-tolerance", "epsilon / 10^9 in binary64, then times S(n)",
+          (BOUND, "int(S * (epsilon / 1e9))")),
+    wrong("bound-binary64-S", "S(n) / 10^9 in binary64, then times epsilon", (BOUND, "int(S / 1e9 * epsilon)")),
+    wrong("bound-as-share", "t / S(n) <= epsilon / 10^9 in binary64", (T_TEST, "tail(w, X, n) / S <= epsilon / 1e9")),
+    wrong("S-binary64", "S(n) summed in binary64", (SUM_S, "        S = int(float(S) + w[n])\n")),
     wrong("bound-64-bit", "S(n) epsilon in 64 bits", (BOUND, "S * epsilon % 2**64 // BILLION")),
     wrong("bound-15-digits", "S(n) epsilon with 15 digits", (BOUND, "digits15(S * epsilon) // BILLION")),
     wrong("bound-first-divided", "S(n) divided by 10^9 before it is multiplied", (BOUND, "S // BILLION * epsilon")),
@@ -500,6 +554,7 @@ LEVEL = [
 MOMENTS = [
     *rounded("terms", "the terms of A", TERM, "w[n] * U[n][r][i], ONE"),
     wrong("terms-binary64", "the terms of A in binary64", (TERM, "binary64(w[n], U[n][r][i], ONE)")),
+    wrong("terms-extended", "the terms of A with 64 significant bits", (TERM, "extended(w[n], U[n][r][i], ONE)")),
     wrong("terms-64-bit", "w(n) U(n,r) in 64 bits", (TERM, "w[n] * U[n][r][i] % 2**64 // ONE")),
     wrong("terms-15-digits", "w(n) U(n,r) with 15 digits", (TERM, "digits15(w[n] * U[n][r][i]) // ONE")),
     wrong("terms-together", "A divided by 10^12 after it is summed",
@@ -519,6 +574,10 @@ MOMENTS = [
           (LAST, "even(A * ONE, sum(w[:N + 1]))")),
     wrong("last-division-binary64", "the last division in binary64", (LAST, "binary64(A, ONE, sum(w[:N + 1]))")),
     wrong("last-division-share", "A / S(N) in binary64, times 10^12", (LAST, "int(A / sum(w[:N + 1]) * ONE)")),
+    wrong("last-division-S-binary64", "S(N) in binary64 in the last division",
+          (LAST, "A * ONE // int(float(sum(w[:N + 1])))")),
+    wrong("last-division-extended", "the last division with 64 significant bits",
+          (LAST, "extended(A, ONE, sum(w[:N + 1]))")),
     wrong("last-division-64-bit", "A 10^12 in 64 bits", (LAST, "A * ONE % 2**64 // sum(w[:N + 1])")),
     wrong("last-division-15-digits", "A with 15 digits", (LAST, "digits15(A) * ONE // sum(w[:N + 1])")),
     wrong("last-division-first-divided", "S(N) divided by 1,000 before the last division",

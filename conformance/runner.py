@@ -81,9 +81,7 @@ def start(command, file):
 
 
 def end(process):
-    """Ends a process that still runs, with those that it started itself."""
-    if process.poll() is not None:
-        return
+    """Ends a process with those that it started itself."""
     with contextlib.suppress(OSError):
         if hasattr(os, "killpg"):
             os.killpg(process.pid, signal.SIGKILL)
@@ -97,9 +95,8 @@ def run(command, file, time_limit=TIME_LIMIT):
     late = threading.Event()
 
     def give_up():
-        if process.poll() is None:
-            late.set()
-            end(process)
+        late.set()
+        end(process)
 
     timer = threading.Timer(time_limit, give_up)
     timer.start()
@@ -110,7 +107,8 @@ def run(command, file, time_limit=TIME_LIMIT):
         status = process.wait()
     finally:
         timer.cancel()
-        end(process)
+        if process.poll() is None:
+            end(process)
         ended.set()
         process.stdout.close()
         process.wait()

@@ -71,11 +71,13 @@ def half_ticks(row, options):
 
 
 def printed(module, row):
-    """The sheet that a calculator prints for a row, or None where it ends with an error."""
+    """The sheet that a calculator prints for a row, or None where its numbers stop it."""
     try:
         return module.sheet(built(row))
-    except Exception:        # whatever stops it, it prints no sheet
+    except mutants.STOPPED:
         return None
+    except Exception as error:
+        raise ValueError(f"{module.__name__}: its text is wrong, not its numbers: {error}") from error
 
 
 def other_sheet(row, options):
@@ -294,7 +296,7 @@ def main(words):
         if words == ["--check"]:
             return check()
         return run(read_options(words))
-    except ValueError as error:        # an old text of mistakes.py that is not in the reference
+    except ValueError as error:        # a text of mistakes.py that is wrong
         print(f"search.py: {error}", file=sys.stderr)
         return 2
 

@@ -70,7 +70,8 @@ class Ends(unittest.TestCase):
 
     def test_no_end(self):
         start = time.monotonic()
-        for command in (["sleep", "60"], ["sh", "-c", "sleep 60; echo"], ["sh", "-c", "exec >&-; sleep 60"]):
+        for command in (["sleep", "60"], ["sh", "-c", "sleep 60; echo"], ["sh", "-c", "exec >&-; sleep 60"],
+                        ["sh", "-c", "sleep 60 &"]):
             self.assertEqual(runner.run(command, FILE, 0.3), (b"", "no end within 0.3 seconds"))
         self.assertLess(time.monotonic() - start, 30)
 
