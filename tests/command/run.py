@@ -13,7 +13,6 @@ import pty
 import re
 import shutil
 import socket
-import struct
 import subprocess
 import sys
 import tempfile
@@ -94,9 +93,9 @@ def commands(room):
             expect(command, run(command, **places), (status, output, words))
 
 
-def given(descriptor, command="./calculate"):
-    """Status, standard output and standard error of a command whose standard input is an open descriptor."""
-    done = subprocess.run([command], cwd=ROOT, stdin=descriptor, stdout=subprocess.PIPE, stderr=subprocess.PIPE,
+def given(descriptor):
+    """Status, standard output and standard error of ./calculate whose standard input is an open descriptor."""
+    done = subprocess.run(["./calculate"], cwd=ROOT, stdin=descriptor, stdout=subprocess.PIPE, stderr=subprocess.PIPE,
                           timeout=TIME_LIMIT, check=False)
     return done.returncode, done.stdout, done.stderr.decode()
 
@@ -118,11 +117,11 @@ def broken_off():
     expect("a pipe that is not ready", given(reader), (2, b"", UNREADABLE))
     os.close(reader)
     os.close(writer)
-    with socket.create_server(("127.0.0.1", 0)) as server, socket.create_connection(server.getsockname()) as ours:
-        theirs, _ = server.accept()
-        theirs.setsockopt(socket.SOL_SOCKET, socket.SO_LINGER, struct.pack("ii", 1, 0))
-        theirs.close()
-        expect("a connection that is reset", given(ours.fileno()), (2, b"", UNREADABLE))
+    ours, theirs = socket.socketpair()
+    ours.send(b"never read")
+    theirs.close()
+    expect("a connection that is reset", given(ours.fileno()), (2, b"", UNREADABLE))
+    ours.close()
 
 
 def format_page():
