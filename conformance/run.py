@@ -22,8 +22,9 @@ MOST_WITHOUT_END = 3   # models; each takes the time limit of runner.py
 
 
 def names():
-    """The names of the stored models, sorted."""
-    result = sorted(name[:-6] for name in os.listdir(FILES) if name.endswith(".model"))
+    """The names of the stored models, sorted; those that document 01 explains come first."""
+    result = [name[:-6] for name in os.listdir(FILES) if name.endswith(".model")]
+    result.sort(key=lambda name: (not name.startswith("hand-"), name))
     if not result:
         raise OSError("no models in conformance/files")
     return result

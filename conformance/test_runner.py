@@ -88,21 +88,37 @@ class Words(unittest.TestCase):
 
     def test_first_difference(self):
         sheet = b"level 3\n1 1 0.5\n"
-        for got, words in (
-                (b"level 4\n1 1 0.5\n", "line 1, column 7: expected '3', got '4'"),
-                (b"level 3\n1 1 0.5", "line 2, column 8: expected end of line, got end of output"),
-                (b"level 3\n1 1 0.5\n2", "line 3, column 1: expected end of output, got '2'"),
-                (b"level 3\r\n1 1 0.5\r\n", "line 1, column 8: expected end of line, got carriage return (CRLF)"),
-                (b"level 3\r1 1 0.5\r", "line 1, column 8: expected end of line, got carriage return"),
-                (b"level 3 \n1 1 0.5\n", "line 1, column 8: expected end of line, got space"),
-                (b"level\t3\n", "line 1, column 6: expected space, got tab"),
-                (b"\xef\xbb\xbflevel 3\n", "line 1, column 1: expected 'l', got byte EF"),
-                (b"", "line 1, column 1: expected 'l', got end of output")):
-            self.assertEqual(runner.first_difference(sheet, got), words)
+        for got, words, lines in (
+                (b"level 4\n1 1 0.5\n", "line 1, column 7: expected '3', got '4'", '"level 3", got "level 4"'),
+                (b"level 3\n1 1 0.6\n", "line 2, column 7: expected '5', got '6'", '"1 1 0.5", got "1 1 0.6"'),
+                (b"refused 7\n", "line 1, column 1: expected 'l', got 'r'", '"level 3", got "refused 7"'),
+                (b"level 3\n", "line 2, column 1: expected '1', got end of output", '"1 1 0.5", got no line'),
+                (b"level 3\n\n", "line 2, column 1: expected '1', got end of line", '"1 1 0.5", got ""'),
+                (b"level 3\n1 1 0.5", "line 2, column 8: expected end of line, got end of output",
+                 '"1 1 0.5", got "1 1 0.5"'),
+                (b"level 3\n1 1 0.5\n2", "line 3, column 1: expected end of output, got '2'", 'no line, got "2"'),
+                (b"level 3\r\n1 1 0.5\r\n", "line 1, column 8: expected end of line, got carriage return (CRLF)",
+                 r'"level 3", got "level 3\r"'),
+                (b"level 3\r1 1 0.5\r", "line 1, column 8: expected end of line, got carriage return",
+                 r'"level 3", got "level 3\r1 1 0.5\r"'),
+                (b"level 3 \n1 1 0.5\n", "line 1, column 8: expected end of line, got space",
+                 '"level 3", got "level 3 "'),
+                (b"level\t3\n", "line 1, column 6: expected space, got tab", r'"level 3", got "level\t3"'),
+                (b"\xef\xbb\xbflevel 3\n", "line 1, column 1: expected 'l', got byte EF",
+                 r'"level 3", got "\xef\xbb\xbflevel 3"'),
+                (b"", "line 1, column 1: expected 'l', got end of output", '"level 3", got no line')):
+            self.assertEqual(runner.first_difference(sheet, got), f"{words} (expected {lines})")
+
+    def test_long_line(self):
+        for line, words in ((b"5" * 60, f'"{"5" * 60}"'), (b"5" * 61, f'"{"5" * 60}"...'),
+                            (b"\x00" * 15, '"' + r"\x00" * 15 + '"'), (b"\x00" * 10**6, '"' + r"\x00" * 15 + '"...'),
+                            (b"5" + b"\x00" * 15, '"5' + r"\x00" * 14 + '"...')):
+            self.assertTrue(runner.first_difference(b"level 3\n", line).endswith(f", got {words})"), words)
 
     def test_check(self):
         self.assertEqual(runner.check(COPY, b"abc", b"abc"), "")
-        self.assertEqual(runner.check(COPY, b"abc", b"abd"), "line 1, column 3: expected 'd', got 'c'")
+        self.assertEqual(runner.check(COPY, b"abc", b"abd"),
+                         """line 1, column 3: expected 'd', got 'c' (expected "abd", got "abc")""")
 
 
 class Programs(unittest.TestCase):
@@ -120,8 +136,10 @@ class Programs(unittest.TestCase):
     def test_run(self):
         result = self.run_program("run.py", "printf", r"refused 3\r\n")
         self.assertEqual((result.returncode, result.stderr), (1, ""))
-        self.assertIn("hand-A-version-2.model: line 1, column 10: expected end of line, got carriage return (CRLF)\n",
-                      result.stdout)
+        self.assertIn("hand-A-version-2.model: line 1, column 10: expected end of line, got carriage return (CRLF) "
+                      '(expected "refused 3", got "refused 3\\r")\n', result.stdout)
+        tried = [line.split(".model: ")[0] for line in result.stdout.splitlines()[:-1]]
+        self.assertEqual(tried, sorted(tried, key=lambda name: (not name.startswith("hand-"), name)))
         self.assertRegex(result.stdout, r"\n0 passed, \d+ failed\n\Z")
 
     def test_compare(self):
@@ -132,7 +150,7 @@ class Programs(unittest.TestCase):
     def test_compare_different(self):
         result = self.compare("--count", "4", sys.executable, "-B", os.path.join(HERE, "mutants.py"), "--as", "CRLF")
         self.assertEqual((result.returncode, result.stderr), (1, ""))
-        self.assertIn(": line 1, column 8: expected end of line, got carriage return (CRLF)\n", result.stdout)
+        self.assertIn(": line 1, column 8: expected end of line, got carriage return (CRLF) (expected ", result.stdout)
         self.assertIn("\nmodel 1 of 4 differs, seed 1; it is saved as ", result.stdout)
 
     def test_no_run(self):
