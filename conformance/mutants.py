@@ -194,10 +194,12 @@ def main(arguments):
         return 2
     try:
         return behave_as(arguments[1]) if arguments else judge_all()
+    except BrokenPipeError:
+        raise
     except (OSError, ValueError) as error:
         print(f"mutants.py: {error}", file=sys.stderr)
         return 2
 
 
 if __name__ == "__main__":
-    sys.exit(main(sys.argv[1:]))
+    runner.leave(main, sys.argv[1:])

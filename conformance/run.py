@@ -18,7 +18,7 @@ sys.path.insert(0, HERE)
 import runner  # noqa: E402
 
 FILES = os.path.join(HERE, "files")
-MOST_WITHOUT_END = 3   # models; each takes the time limit of runner.py
+MOST_WITHOUT_END = 2   # models; each takes the time limit of runner.py
 
 
 def names():
@@ -58,6 +58,8 @@ def main(command):
         return 2
     try:
         passed, failed = run_all(command)
+    except BrokenPipeError:
+        raise
     except OSError as error:
         print(f"run.py: {error}", file=sys.stderr)
         return 2
@@ -66,4 +68,4 @@ def main(command):
 
 
 if __name__ == "__main__":
-    sys.exit(main(sys.argv[1:]))
+    runner.leave(main, sys.argv[1:])

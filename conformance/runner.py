@@ -19,7 +19,9 @@ try:
 except ImportError:          # not on every system
     fcntl = None
 
-TIME_LIMIT = 120             # seconds for one model
+LARGE = 1000                 # bytes; a model of fewer has at most 15 states
+TIME_LIMIT = 20              # seconds for one model
+LARGE_TIME_LIMIT = 240       # seconds for a large one
 NO_END = "no end within"
 OUTPUT_LIMIT = 1_000_000     # bytes; the longest sheet has 513 lines and about 10,000 bytes
 LINE_SHOWN = 60              # characters of a line in a message; no line of a sheet is longer
@@ -90,8 +92,9 @@ def end(process):
             process.kill()
 
 
-def run(command, file, time_limit=TIME_LIMIT):
+def run(command, file, time_limit=None):
     """What the command prints for a model, and a word on how the run went wrong (or an empty one)."""
+    time_limit = time_limit or (TIME_LIMIT if len(file) < LARGE else LARGE_TIME_LIMIT)
     process, ended = start(command, file)
     late = threading.Event()
 
@@ -116,6 +119,19 @@ def run(command, file, time_limit=TIME_LIMIT):
     if late.is_set():
         return output, f"{NO_END} {time_limit} seconds"
     return output, f"ended by signal {-status}" if status < 0 else ""
+
+
+# --- Scripts -----------------------------------------------------------------------------------
+
+def leave(main, *arguments):
+    """Runs a script's main and exits with its status; quietly, with 2, where nobody reads its output any more."""
+    try:
+        status = main(*arguments)
+        print(end="", flush=True)
+    except BrokenPipeError:
+        os.dup2(os.open(os.devnull, os.O_WRONLY), sys.stdout.fileno())
+        status = 2
+    sys.exit(status)
 
 
 # --- Comparing ---------------------------------------------------------------------------------
@@ -154,7 +170,7 @@ def first_difference(expected, got):
             f"(expected {quoted(expected, start)}, got {quoted(got, start)})")
 
 
-def check(command, file, expected, time_limit=TIME_LIMIT):
+def check(command, file, expected, time_limit=None):
     """An empty word when the command prints the expected sheet, else what is wrong."""
     output, trouble = run(command, file, time_limit)
     wrong = [trouble] if trouble else []
