@@ -182,9 +182,10 @@ class Programs(unittest.TestCase):
         self.assertEqual((result.returncode, result.stderr), (1, ""))
         result = self.compare_with_build("echo 'build: no calculator' >&2; exit 2")
         self.assertEqual((result.returncode, result.stdout, result.stderr), (2, "", "build: no calculator\n"))
-        for script in (None, "exit 0", "echo no-such-program"):
+        for script, words in ((None, "No such file"), ("exit 0", "printed no path"), ("echo no-program", "no-program")):
             result = self.compare_with_build(script)
             self.assertEqual((result.returncode, result.stderr.count("\n")), (2, 1))
+            self.assertIn(words, result.stderr)
 
     def test_no_end(self):
         text = "import os, run, runner, sys; runner.TIME_LIMIT = 0.3; sys.exit(run.main(['sleep', '60']))"
