@@ -542,8 +542,6 @@ LEVEL = [
           (BOUND, "int(S * (epsilon / 1e9))")),
     wrong("bound-binary64-S", "S(n) / 10^9 in binary64, then times epsilon", (BOUND, "int(S / 1e9 * epsilon)")),
     wrong("bound-as-share", "t / S(n) <= epsilon / 10^9 in binary64", (T_TEST, "tail(w, X, n) / S <= epsilon / 1e9")),
-    wrong("bound-S-binary64", "S(n) in binary64, its product and quotient in whole numbers",
-          (BOUND, "int(float(S)) * epsilon // BILLION")),
     wrong("S-binary64", "S(n) summed in binary64", (SUM_S, "        S = int(float(S) + w[n])\n")),
     wrong("bound-64-bit", "S(n) epsilon in 64 bits", (BOUND, "S * epsilon % 2**64 // BILLION")),
     wrong("bound-15-digits", "S(n) epsilon with 15 digits", (BOUND, "digits15(S * epsilon) // BILLION")),
