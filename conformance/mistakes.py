@@ -11,6 +11,7 @@ import signal
 import struct
 import sys
 from collections import namedtuple
+from fractions import Fraction
 
 # time_limit: None for a calculator that is called as a module; where the mistake is in reading
 # or writing, the seconds that the calculator gets as a program, one model after the other.
@@ -102,6 +103,18 @@ def extended(a, b, c):
     product = even(a * b, unit) * unit
     places = 64 - (product // c).bit_length()
     return even(product << places, c) >> places
+
+
+def significant64(a):
+    """A fraction above 0 rounded to 64 significant bits, a half to the even one."""
+    places = 64 - a.numerator.bit_length() + a.denominator.bit_length()
+    places -= a * Fraction(2)**places >= 2**64
+    return round(a * Fraction(2)**places) / Fraction(2)**places
+
+
+def share_extended(a, b, c):
+    """a / c with 64 significant bits, then times b with as many, cut to a whole number."""
+    return int(significant64(significant64(Fraction(a, c)) * b)) if a else 0
 
 
 def digits15(a):
@@ -231,8 +244,8 @@ def read_pieces(stream, size, most, enough=lambda file: False):
     return file
 
 
-HELPERS = (math.comb, up, nearest, even, binary64, binary32, extended, digits15, signed, signed_bytes, by_columns,
-           overwritten, unless_still, poisson, e_to_q, relation_10, exponent, as_binary64, crash, row_holds,
+HELPERS = (math.comb, up, nearest, even, binary64, binary32, extended, share_extended, digits15, signed, signed_bytes,
+           by_columns, overwritten, unless_still, poisson, e_to_q, relation_10, exponent, as_binary64, crash, row_holds,
            row_by_row, state_by_state, read_pieces)
 
 
@@ -497,6 +510,8 @@ WEIGHT_LIST = [
     wrong("weights-whole-q", "q rounded down in the weights", (WEIGHTS, WEIGHTS + "    X = max(m, 1) * MILLION\n")),
     wrong("weights-left-truncated", "weights below 10^-12 left of m taken as 0",
           ("        w[n - 1] = " + LEFT, f"        w[n - 1] = {LEFT} if w[n] >= 1000 else 0")),
+    wrong("weights-left-110", "weights left of m - 110 taken as 0",
+          ("        w[n - 1] = " + LEFT, f"        w[n - 1] = {LEFT} if n > m - 110 else 0")),
     wrong("m-up", "m is q rounded up", (WEIGHTS_M, "m = up(X, MILLION)\n    w = "),
           (TAIL_M, "m = up(X, MILLION)\n    return 1 ")),
     wrong("m-binary32", "m from q in binary32", (WEIGHTS_M, "m = int(binary32(binary32(X) / 10**6))\n    w = ")),
@@ -578,6 +593,8 @@ MOMENTS = [
           (LAST, "A * ONE // int(float(sum(w[:N + 1])))")),
     wrong("last-division-extended", "the last division with 64 significant bits",
           (LAST, "extended(A, ONE, sum(w[:N + 1]))")),
+    wrong("last-division-share-extended", "A / S(N) with 64 significant bits, times 10^12",
+          (LAST, "share_extended(A, ONE, sum(w[:N + 1]))")),
     wrong("last-division-64-bit", "A 10^12 in 64 bits", (LAST, "A * ONE % 2**64 // sum(w[:N + 1])")),
     wrong("last-division-15-digits", "A with 15 digits", (LAST, "digits15(A) * ONE // sum(w[:N + 1])")),
     wrong("last-division-first-divided", "S(N) divided by 1,000 before the last division",

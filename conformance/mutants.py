@@ -11,7 +11,10 @@ prints a sheet, so a division by 0, or a program without an end, counts as caugh
 """
 
 import contextlib
+import functools
 import io
+import math
+import multiprocessing
 import os
 import subprocess
 import sys
@@ -28,6 +31,8 @@ import runner  # noqa: E402
 from mistakes import EQUIVALENT, TABLE, Wrong  # noqa: E402
 
 ENOUGH = 2        # models that have to catch a wrong calculator
+CHEAP = 10**6     # the cost of models on which the changes that no sheet can show are tried
+WORKERS = min(2, os.cpu_count() or 1)
 STOPPED = (ArithmeticError, LookupError, ValueError)     # what its numbers may raise; other errors are in its text
 RIGHT = Wrong("reference", "nothing changed", (), None)
 
@@ -76,10 +81,11 @@ def cost(model, sheet):
     return int(sheet.split()[1]) * model[3]**2 * model[4], len(model)
 
 
-def kit():
-    """The stored models with their sheets as (name, model, sheet), the cheapest first."""
+@functools.lru_cache(maxsize=None)
+def kit(most=math.inf):
+    """The stored models up to a cost with their sheets, as (name, model, sheet), the cheapest first."""
     files = [(name, run.stored(name + ".model"), run.stored(name + ".sheet")) for name in run.names()]
-    return sorted(files, key=lambda file: cost(*file[1:]))
+    return sorted((file for file in files if cost(*file[1:])[0] < most), key=lambda file: cost(*file[1:]))
 
 
 def called(entry):
@@ -146,12 +152,12 @@ def judge_equivalent(entry, files):
     return right
 
 
-def self_test(files):
+def self_test(entry, files):
     """Whether the trying itself is right: the reference passes, as a module and as a program, and a changed
     text that changes nothing is caught by none, and would be told."""
     few = files[:-1:20]
     same = mistakes.wrong("same", "r W + n V in place of n V + r W", (mistakes.MIX, "(r * w + n * v) // (n + r)"))
-    right = judge_right(RIGHT, files) and judge_right(RIGHT._replace(time_limit=60), few)
+    right = judge_right(entry, files) and judge_right(entry._replace(time_limit=60), few)
     with contextlib.redirect_stdout(io.StringIO()) as said:
         told = not judge(same, files[:-1]) and "caught by none: fewer than two" in said.getvalue()
     if not told:
@@ -159,20 +165,36 @@ def self_test(files):
     return right and told
 
 
+def judged(job):
+    """What a judge prints of an entry, and what it returns; run by a worker."""
+    judge_entry, entry, most = job
+    with contextlib.redirect_stdout(io.StringIO()) as said:
+        good = judge_entry(entry, kit(most))
+    return said.getvalue(), good
+
+
+def verdicts(jobs):
+    """What the judges return, job by job; what they print is printed in the same order."""
+    with multiprocessing.Pool(WORKERS) as pool:
+        for said, good in pool.imap(judged, jobs):
+            print(said, end="", flush=True)
+            yield good
+
+
 def judge_all():
     """Prints a line for every wrong calculator; 0 where the kit tells each, else 1."""
-    files = kit()
-    cheap = [file for file in files if cost(*file[1:])[0] < 10**6]
-    right = self_test(files)
-    wrong = [entry.name for entry in TABLE.values() if not judge(entry, files)]
-    same = [entry.name for entry in EQUIVALENT if not judge_equivalent(entry, cheap)]
+    jobs = [(self_test, RIGHT, math.inf)] + [(judge, entry, math.inf) for entry in TABLE.values()]
+    jobs += [(judge_equivalent, entry, CHEAP) for entry in EQUIVALENT]
+    bad = [job for job, good in zip(jobs, verdicts(jobs)) if not good]
+    wrong = [entry.name for judge_entry, entry, _ in bad if judge_entry is judge]
+    same = [entry.name for judge_entry, entry, _ in bad if judge_entry is judge_equivalent]
     if same:
         print(f"{len(same)} of {len(EQUIVALENT)} changes that no sheet can show are caught: {', '.join(same)}")
     if wrong:
         print(f"{len(wrong)} of {len(TABLE)} wrong calculators are caught by fewer than two models: {', '.join(wrong)}")
     else:
         print(f"{len(TABLE)} wrong calculators, each caught by two models or more; {len(EQUIVALENT)} changes left out")
-    return 0 if right and not wrong and not same else 1
+    return 1 if bad else 0
 
 
 def behave_as(name):
@@ -194,10 +216,12 @@ def main(arguments):
         return 2
     try:
         return behave_as(arguments[1]) if arguments else judge_all()
+    except BrokenPipeError:
+        raise
     except (OSError, ValueError) as error:
         print(f"mutants.py: {error}", file=sys.stderr)
         return 2
 
 
 if __name__ == "__main__":
-    sys.exit(main(sys.argv[1:]))
+    runner.leave(main, sys.argv[1:])

@@ -19,9 +19,12 @@ try:
 except ImportError:          # not on every system
     fcntl = None
 
-TIME_LIMIT = 120             # seconds for one model
+LARGE = 1000                 # bytes; a model of fewer has at most 15 states
+TIME_LIMIT = 20              # seconds for one model
+LARGE_TIME_LIMIT = 300       # seconds for a large one
 NO_END = "no end within"
 OUTPUT_LIMIT = 1_000_000     # bytes; the longest sheet has 513 lines and about 10,000 bytes
+LINE_SHOWN = 60              # characters of a line in a message; no line of a sheet is longer
 PAUSE = 0.005                # seconds between pieces where the system does not tell what was taken
 
 
@@ -89,8 +92,9 @@ def end(process):
             process.kill()
 
 
-def run(command, file, time_limit=TIME_LIMIT):
+def run(command, file, time_limit=None):
     """What the command prints for a model, and a word on how the run went wrong (or an empty one)."""
+    time_limit = time_limit or (TIME_LIMIT if len(file) < LARGE else LARGE_TIME_LIMIT)
     process, ended = start(command, file)
     late = threading.Event()
 
@@ -117,6 +121,19 @@ def run(command, file, time_limit=TIME_LIMIT):
     return output, f"ended by signal {-status}" if status < 0 else ""
 
 
+# --- Scripts -----------------------------------------------------------------------------------
+
+def leave(main, *arguments):
+    """Runs a script's main and exits with its status; quietly, with 2, where nobody reads its output any more."""
+    try:
+        status = main(*arguments)
+        print(end="", flush=True)
+    except BrokenPipeError:
+        os.dup2(os.open(os.devnull, os.O_WRONLY), sys.stdout.fileno())
+        status = 2
+    sys.exit(status)
+
+
 # --- Comparing ---------------------------------------------------------------------------------
 
 def shown(output, k):
@@ -131,17 +148,29 @@ def shown(output, k):
     return f"'{chr(output[k])}'" if 32 < output[k] < 127 else f"byte {output[k]:02X}"
 
 
+def quoted(output, start):
+    """The line that begins at a place, between quotes: other than printable bytes as \\r or \\xef, a long line cut."""
+    if start >= len(output):
+        return "no line"
+    line = output[start:].split(b"\n", 1)[0]
+    parts = [chr(byte).encode("unicode_escape").decode("ascii") for byte in line[:LINE_SHOWN]]
+    while sum(map(len, parts)) > LINE_SHOWN:
+        parts.pop()
+    return f'"{"".join(parts)}"' + ("..." if len(parts) < len(line) else "")
+
+
 def first_difference(expected, got):
-    """Where got first differs from expected, in words; lines and columns count from 1."""
+    """Where got first differs from expected, in words, and the two lines; lines and columns count from 1."""
     k = 0
     while k < len(expected) and k < len(got) and expected[k] == got[k]:
         k += 1
+    start = expected.rfind(b"\n", 0, k) + 1       # of the line, in both
     line = expected.count(b"\n", 0, k) + 1
-    column = k - (expected.rfind(b"\n", 0, k) + 1) + 1
-    return f"line {line}, column {column}: expected {shown(expected, k)}, got {shown(got, k)}"
+    return (f"line {line}, column {k - start + 1}: expected {shown(expected, k)}, got {shown(got, k)} "
+            f"(expected {quoted(expected, start)}, got {quoted(got, start)})")
 
 
-def check(command, file, expected, time_limit=TIME_LIMIT):
+def check(command, file, expected, time_limit=None):
     """An empty word when the command prints the expected sheet, else what is wrong."""
     output, trouble = run(command, file, time_limit)
     wrong = [trouble] if trouble else []

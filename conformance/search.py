@@ -25,6 +25,7 @@ import calculator  # noqa: E402
 import edges  # noqa: E402
 import models  # noqa: E402
 import mutants  # noqa: E402
+import runner  # noqa: E402
 from calculator import ONE  # noqa: E402
 from edges import Edge, Half  # noqa: E402
 from families import FAMILIES, level_blocks, level_crossings, level_edges, miss_at, two_states  # noqa: E402
@@ -302,4 +303,4 @@ def main(words):
 
 
 if __name__ == "__main__":
-    sys.exit(main(sys.argv[1:]))
+    runner.leave(main, sys.argv[1:])

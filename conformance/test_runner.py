@@ -2,6 +2,7 @@
 """Tests of the runner: python3 conformance/test_runner.py"""
 
 import os
+import shutil
 import subprocess
 import sys
 import tempfile
@@ -11,6 +12,7 @@ from unittest import mock
 
 sys.dont_write_bytecode = True
 HERE = os.path.dirname(os.path.abspath(__file__))
+ROOT = os.path.dirname(HERE)
 sys.path.insert(0, HERE)
 
 import runner  # noqa: E402
@@ -24,7 +26,7 @@ def python(text):
 
 
 SIZES = python("import os\nwhile True:\n    n = len(os.read(0, 20000))\n    if not n: break\n    print(n)")
-REFERENCE = [sys.executable, "-B", os.path.join(HERE, "..", "reference", "calculator.py")]
+REFERENCE = [sys.executable, "-B", os.path.join(ROOT, "reference", "calculator.py")]
 COPY = python("import sys; sys.stdout.buffer.write(sys.stdin.buffer.read())")
 
 
@@ -75,6 +77,11 @@ class Ends(unittest.TestCase):
             self.assertEqual(runner.run(command, FILE, 0.3), (b"", "no end within 0.3 seconds"))
         self.assertLess(time.monotonic() - start, 30)
 
+    def test_time_limit(self):
+        with mock.patch.multiple(runner, TIME_LIMIT=0.3, LARGE_TIME_LIMIT=0.6):
+            for size, limit in ((0, 0.3), (999, 0.3), (1000, 0.6), (16_397, 0.6)):
+                self.assertEqual(runner.run(["sleep", "60"], FILE[:size]), (b"", f"no end within {limit} seconds"))
+
     def test_output_without_end(self):
         output, trouble = runner.run(["yes"], FILE, 30)
         self.assertEqual((len(output), trouble), (runner.OUTPUT_LIMIT, "more than 1000000 bytes of output"))
@@ -88,21 +95,37 @@ class Words(unittest.TestCase):
 
     def test_first_difference(self):
         sheet = b"level 3\n1 1 0.5\n"
-        for got, words in (
-                (b"level 4\n1 1 0.5\n", "line 1, column 7: expected '3', got '4'"),
-                (b"level 3\n1 1 0.5", "line 2, column 8: expected end of line, got end of output"),
-                (b"level 3\n1 1 0.5\n2", "line 3, column 1: expected end of output, got '2'"),
-                (b"level 3\r\n1 1 0.5\r\n", "line 1, column 8: expected end of line, got carriage return (CRLF)"),
-                (b"level 3\r1 1 0.5\r", "line 1, column 8: expected end of line, got carriage return"),
-                (b"level 3 \n1 1 0.5\n", "line 1, column 8: expected end of line, got space"),
-                (b"level\t3\n", "line 1, column 6: expected space, got tab"),
-                (b"\xef\xbb\xbflevel 3\n", "line 1, column 1: expected 'l', got byte EF"),
-                (b"", "line 1, column 1: expected 'l', got end of output")):
-            self.assertEqual(runner.first_difference(sheet, got), words)
+        for got, words, lines in (
+                (b"level 4\n1 1 0.5\n", "line 1, column 7: expected '3', got '4'", '"level 3", got "level 4"'),
+                (b"level 3\n1 1 0.6\n", "line 2, column 7: expected '5', got '6'", '"1 1 0.5", got "1 1 0.6"'),
+                (b"refused 7\n", "line 1, column 1: expected 'l', got 'r'", '"level 3", got "refused 7"'),
+                (b"level 3\n", "line 2, column 1: expected '1', got end of output", '"1 1 0.5", got no line'),
+                (b"level 3\n\n", "line 2, column 1: expected '1', got end of line", '"1 1 0.5", got ""'),
+                (b"level 3\n1 1 0.5", "line 2, column 8: expected end of line, got end of output",
+                 '"1 1 0.5", got "1 1 0.5"'),
+                (b"level 3\n1 1 0.5\n2", "line 3, column 1: expected end of output, got '2'", 'no line, got "2"'),
+                (b"level 3\r\n1 1 0.5\r\n", "line 1, column 8: expected end of line, got carriage return (CRLF)",
+                 r'"level 3", got "level 3\r"'),
+                (b"level 3\r1 1 0.5\r", "line 1, column 8: expected end of line, got carriage return",
+                 r'"level 3", got "level 3\r1 1 0.5\r"'),
+                (b"level 3 \n1 1 0.5\n", "line 1, column 8: expected end of line, got space",
+                 '"level 3", got "level 3 "'),
+                (b"level\t3\n", "line 1, column 6: expected space, got tab", r'"level 3", got "level\t3"'),
+                (b"\xef\xbb\xbflevel 3\n", "line 1, column 1: expected 'l', got byte EF",
+                 r'"level 3", got "\xef\xbb\xbflevel 3"'),
+                (b"", "line 1, column 1: expected 'l', got end of output", '"level 3", got no line')):
+            self.assertEqual(runner.first_difference(sheet, got), f"{words} (expected {lines})")
+
+    def test_long_line(self):
+        for line, words in ((b"5" * 60, f'"{"5" * 60}"'), (b"5" * 61, f'"{"5" * 60}"...'),
+                            (b"\x00" * 15, '"' + r"\x00" * 15 + '"'), (b"\x00" * 10**6, '"' + r"\x00" * 15 + '"...'),
+                            (b"5" + b"\x00" * 15, '"5' + r"\x00" * 14 + '"...')):
+            self.assertTrue(runner.first_difference(b"level 3\n", line).endswith(f", got {words})"), words)
 
     def test_check(self):
         self.assertEqual(runner.check(COPY, b"abc", b"abc"), "")
-        self.assertEqual(runner.check(COPY, b"abc", b"abd"), "line 1, column 3: expected 'd', got 'c'")
+        self.assertEqual(runner.check(COPY, b"abc", b"abd"),
+                         """line 1, column 3: expected 'd', got 'c' (expected "abd", got "abc")""")
 
 
 class Programs(unittest.TestCase):
@@ -120,8 +143,10 @@ class Programs(unittest.TestCase):
     def test_run(self):
         result = self.run_program("run.py", "printf", r"refused 3\r\n")
         self.assertEqual((result.returncode, result.stderr), (1, ""))
-        self.assertIn("hand-A-version-2.model: line 1, column 10: expected end of line, got carriage return (CRLF)\n",
-                      result.stdout)
+        self.assertIn("hand-A-version-2.model: line 1, column 10: expected end of line, got carriage return (CRLF) "
+                      '(expected "refused 3", got "refused 3\\r")\n', result.stdout)
+        tried = [line.split(".model: ")[0] for line in result.stdout.splitlines()[:-1]]
+        self.assertEqual(tried, sorted(tried, key=lambda name: (not name.startswith("hand-"), name)))
         self.assertRegex(result.stdout, r"\n0 passed, \d+ failed\n\Z")
 
     def test_compare(self):
@@ -132,8 +157,52 @@ class Programs(unittest.TestCase):
     def test_compare_different(self):
         result = self.compare("--count", "4", sys.executable, "-B", os.path.join(HERE, "mutants.py"), "--as", "CRLF")
         self.assertEqual((result.returncode, result.stderr), (1, ""))
-        self.assertIn(": line 1, column 8: expected end of line, got carriage return (CRLF)\n", result.stdout)
+        self.assertIn(": line 1, column 8: expected end of line, got carriage return (CRLF) (expected ", result.stdout)
         self.assertIn("\nmodel 1 of 4 differs, seed 1; it is saved as ", result.stdout)
+
+    def compare_with_build(self, script):
+        """compare.py without a command, in a copy that has this script as its build."""
+        with tempfile.TemporaryDirectory() as root:
+            for name in ("reference", "conformance"):
+                shutil.copytree(os.path.join(ROOT, name), os.path.join(root, name),
+                                ignore=shutil.ignore_patterns("files"))
+            if script is not None:
+                with open(os.path.join(root, "build"), "w", encoding="utf-8") as target:
+                    target.write("#!/bin/sh\n" + script)
+                os.chmod(target.name, 0o755)
+            return self.run_program(os.path.join(root, "reference", "compare.py"), "--count", "4")
+
+    def test_compare_without_command(self):
+        program = f'#!/bin/sh\\nexec "{sys.executable}" -B "{REFERENCE[-1]}"\\n'
+        make = f"""cd "${{0%/*}}"; printf '{program}' > 'a program'; chmod +x 'a program'; echo proving >&2\n"""
+        result = self.compare_with_build(f'[ "$*" = calculator ] || exit 2\n{make}echo "$PWD/a program"')
+        self.assertEqual((result.returncode, result.stderr), (0, "proving\n"))
+        self.assertTrue(result.stdout.endswith("compared 4 models, seed 1: all equal\n"))
+        result = self.compare_with_build("echo /bin/echo")
+        self.assertEqual((result.returncode, result.stderr), (1, ""))
+        result = self.compare_with_build("echo 'build: no calculator' >&2; exit 2")
+        self.assertEqual((result.returncode, result.stdout, result.stderr), (2, "", "build: no calculator\n"))
+        for script, words in ((None, "No such file"), ("exit 0", "printed no path"), ("echo no-program", "no-program")):
+            result = self.compare_with_build(script)
+            self.assertEqual((result.returncode, result.stderr.count("\n")), (2, 1))
+            self.assertIn(words, result.stderr)
+
+    def test_no_end(self):
+        text = "import os, run, runner, sys; runner.TIME_LIMIT = 0.3; sys.exit(run.main(['sleep', '60']))"
+        result = subprocess.run(python(text), cwd=HERE, capture_output=True, text=True, check=False)
+        lines = result.stdout.splitlines()
+        self.assertEqual((result.returncode, result.stderr, len(lines)), (1, "", 4))
+        for name, line in zip(("hand-A", "hand-A-moments-9"), lines):
+            self.assertTrue(line.startswith(f"{name}.model: no end within 0.3 seconds; line 1, column 1: "), line)
+        self.assertEqual(lines[2:], ["2 models had no end in time: the models that follow are not tried",
+                                     "0 passed, 2 failed"])
+
+    def test_nobody_reads(self):
+        for name, arguments in (("run.py", ("printf", "5")), ("search.py", ())):
+            command = [sys.executable, "-B", os.path.join(HERE, name), *arguments]
+            with subprocess.Popen(command, stdout=subprocess.PIPE, stderr=subprocess.PIPE) as process:
+                process.stdout.close()
+                self.assertEqual((process.stderr.read(), process.wait()), (b"", 2))
 
     def test_no_run(self):
         for result in (self.run_program("run.py"), self.run_program("run.py", "--wrong"),

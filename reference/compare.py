@@ -3,15 +3,16 @@
 
     python3 reference/compare.py [--count N] [--seed S | --fresh] [COMMAND [ARGUMENT...]]
 
-Without a command, target/bin/calculator of this repository is run. The command gets each
-model as conformance/run.py gives it, and what differs is named in the same words. It stops
-at the first model that differs. Exit status: 0 when all are equal, 1 when one differs, 2
-when the run itself is not possible.
+Without a command, the program that the script build of this repository makes is run. The
+command gets each model as conformance/run.py gives it, and what differs is named in the same
+words. It stops at the first model that differs. Exit status: 0 when all are equal, 1 when one
+differs, 2 when the run itself is not possible.
 """
 
 import argparse
 import os
 import random
+import subprocess
 import sys
 import tempfile
 import time
@@ -25,7 +26,7 @@ import calculator  # noqa: E402
 import models  # noqa: E402
 import runner  # noqa: E402
 
-DEFAULT_PROGRAM = os.path.join(ROOT, "target", "bin", "calculator")
+BUILD = os.path.join(ROOT, "build")
 PROGRESS_EVERY = 10   # seconds between progress lines
 
 
@@ -37,7 +38,7 @@ def options():
     group.add_argument("--seed", type=int, help="1 unless given")
     group.add_argument("--fresh", action="store_true", help="take a random seed")
     parser.add_argument("command", nargs=argparse.REMAINDER, metavar="COMMAND [ARGUMENT...]",
-                        help="the calculator; target/bin/calculator unless given")
+                        help="the calculator; unless given, what build makes")
     result = parser.parse_args()
     if result.command and result.command[0].startswith("-"):
         parser.error(f"{result.command[0]} is not a command")
@@ -45,8 +46,18 @@ def options():
         result.seed = random.SystemRandom().randrange(10**9)
     elif result.seed is None:
         result.seed = 1
-    result.command = result.command or [DEFAULT_PROGRAM]
     return result
+
+
+def built():
+    """The command of the program made from the sources as they are; none where build has said why it cannot be."""
+    result = subprocess.run([BUILD, "calculator"], stdout=subprocess.PIPE, check=False)
+    if result.returncode:
+        return []
+    path = os.fsdecode(result.stdout).rstrip("\n")
+    if not path:
+        raise OSError(f"{BUILD} calculator printed no path")
+    return [path]
 
 
 def save(name, file, seed):
@@ -75,13 +86,18 @@ def compare(command, count, seed):
 
 def main():
     given = options()
-    print(f"comparing {given.count} models, seed {given.seed}", flush=True)
     try:
-        return compare(given.command, given.count, given.seed)
+        command = given.command or built()
+        if not command:
+            return 2
+        print(f"comparing {given.count} models, seed {given.seed}", flush=True)
+        return compare(command, given.count, given.seed)
+    except BrokenPipeError:
+        raise
     except OSError as error:
         print(f"compare.py: {error}", file=sys.stderr)
         return 2
 
 
 if __name__ == "__main__":
-    sys.exit(main())
+    runner.leave(main)
