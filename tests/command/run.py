@@ -41,7 +41,7 @@ COMMANDS = [
     ("./calculate < examples/B.model 2>&-", 0, B, ""),
     ("./calculate < examples/B.model > /dev/full", 2, b"", NOT_WHOLE),
     ("./calculate < /dev/null > /dev/full", 2, b"", NOT_WHOLE),
-    ("set -o pipefail; ./calculate < examples/B.model | true", 2, b"", NOT_WHOLE),
+    ("set -o pipefail; { sleep 1; ./calculate < examples/B.model; } | true", 2, b"", NOT_WHOLE),
     ("./calculate < examples/B.model >&-", 2, b"", "calculate: standard output is closed; the sheet is written to it\n"),
     ("./calculate <&-", 2, b"", CLOSED),
     ("./calculate <&- >&-", 2, b"", CLOSED),
