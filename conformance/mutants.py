@@ -88,18 +88,20 @@ def kit(most=math.inf):
     return sorted((file for file in files if cost(*file[1:])[0] < most), key=lambda file: cost(*file[1:]))
 
 
+def printed(program, model):
+    """The sheet that a calculator, as a module, prints for a model, or None where its numbers stop it."""
+    try:
+        return program.sheet(model)
+    except STOPPED:
+        return None
+    except Exception as error:
+        raise ValueError(f"{program.__name__}: its text is wrong, not its numbers: {error}") from error
+
+
 def called(entry):
     """A function of a model and its sheet that tells whether the calculator, as a module, fails."""
-    sheet = module(entry).sheet
-
-    def fails(model, expected):
-        try:
-            return sheet(model) != expected
-        except STOPPED:
-            return True
-        except Exception as error:
-            raise ValueError(f"{entry.name}: its text is wrong, not its numbers: {error}") from error
-    return fails
+    program = module(entry)
+    return lambda model, expected: printed(program, model) != expected
 
 
 def started(entry, files):

@@ -63,7 +63,7 @@ def main(command):
     except OSError as error:
         print(f"run.py: {error}", file=sys.stderr)
         return 2
-    print(f"{passed} passed, {failed} failed")
+    print(f"comparison kit: {passed} passed, {failed} failed")
     return 1 if failed else 0
 
 

@@ -71,19 +71,14 @@ def half_ticks(row, options):
     return result
 
 
-def printed(module, row):
-    """The sheet that a calculator prints for a row, or None where its numbers stop it."""
-    try:
-        return module.sheet(built(row))
-    except mutants.STOPPED:
-        return None
-    except Exception as error:
-        raise ValueError(f"{module.__name__}: its text is wrong, not its numbers: {error}") from error
+def differ(one, other, row):
+    """Whether two calculators print different sheets for a row."""
+    return mutants.printed(one, built(row)) != mutants.printed(other, built(row))
 
 
 def other_sheet(row, options):
     """The wrong calculator prints another sheet than the reference, or than the one it is set against."""
-    if printed(options.wrong, row) == printed(options.right, row):
+    if not differ(options.wrong, options.right, row):
         return []
     return row.holds + [f"{options.name} against {options.against}" if options.against else options.name]
 
@@ -228,7 +223,7 @@ def holds_of(row, each):
     if isinstance(each, str):
         wrong, _, other = each.partition(" against ")
         right = mutants.calculator(other) if other else calculator
-        return printed(mutants.calculator(wrong), row) != printed(right, row)
+        return differ(mutants.calculator(wrong), right, row)
     if isinstance(each, Half):
         return each in half_ticks(row, None)
     model = calculator.read_model(built(row))

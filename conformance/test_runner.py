@@ -147,7 +147,7 @@ class Programs(unittest.TestCase):
                       '(expected "refused 3", got "refused 3\\r")\n', result.stdout)
         tried = [line.split(".model: ")[0] for line in result.stdout.splitlines()[:-1]]
         self.assertEqual(tried, sorted(tried, key=lambda name: (not name.startswith("hand-"), name)))
-        self.assertRegex(result.stdout, r"\n0 passed, \d+ failed\n\Z")
+        self.assertRegex(result.stdout, r"\ncomparison kit: 0 passed, \d+ failed\n\Z")
 
     def test_compare(self):
         result = self.compare("--count", "4", "--seed", "2", *REFERENCE)
@@ -195,7 +195,7 @@ class Programs(unittest.TestCase):
         for name, line in zip(("hand-A", "hand-A-moments-9"), lines):
             self.assertTrue(line.startswith(f"{name}.model: no end within 0.3 seconds; line 1, column 1: "), line)
         self.assertEqual(lines[2:], ["2 models had no end in time: the models that follow are not tried",
-                                     "0 passed, 2 failed"])
+                                     "comparison kit: 0 passed, 2 failed"])
 
     def test_nobody_reads(self):
         for name, arguments in (("run.py", ("printf", "5")), ("search.py", ())):

@@ -19,11 +19,18 @@ import tempfile
 
 ROOT = os.path.dirname(os.path.dirname(os.path.dirname(os.path.abspath(__file__))))
 TIME_LIMIT = 300   # seconds for one command
-A = b"level 1\n1 1 1.000000000000\n"
-B = b"level 3\n1 1 0.718749999999\n1 2 0.612499999999\n2 1 0.281249999999\n2 2 0.174999999999\n"
 NOT_WHOLE = "calculate: the sheet could not be written whole\n"
 UNREADABLE = "calculator: the input cannot be read\n"
 CLOSED = "calculate: standard input is closed; a model file is read from it: ./calculate < FILE\n"
+
+
+def stored(name):
+    """The bytes of a file of examples/."""
+    with open(os.path.join(ROOT, "examples", name), "rb") as source:
+        return source.read()
+
+
+A, B = stored("A.sheet"), stored("B.sheet")
 
 # A shell command, run in the repository's folder; the status, standard output and standard error that it must have.
 # LINK is a symbolic link to a symbolic link to ./calculate, PROGRAM the program itself, EMPTY an empty folder.
@@ -135,8 +142,7 @@ def format_page():
         expect(f"the example of rule {rule}", found,
                (1, f"refused {rule}\n".encode(), f"calculate: rule {rule}: {words} (docs/FORMAT.md)\n"))
     program = re.search(r"^```python\n(.*?)^```", page, re.M | re.S)[1]
-    with open(os.path.join(ROOT, "examples", "pair.model"), "rb") as source:
-        expect("the program of docs/FORMAT.md", run("python3 -c \"$TEXT\"", TEXT=program), (0, source.read(), ""))
+    expect("the program of docs/FORMAT.md", run("python3 -c \"$TEXT\"", TEXT=program), (0, stored("pair.model"), ""))
 
 
 def copied(room):

@@ -23,10 +23,10 @@ fn read_input(buffer: &mut [u8]) -> Input {
     let mut count = 0;
     while count < buffer.len() {
         let got = read_part(buffer, count);
-        let more = io::count(got, &buffer[count..]);
         if got < 0 {
             return Input::Unreadable;
         }
+        let more = io::count(got, &buffer[count..]);
         if more == 0 {
             break;
         }
