@@ -2,14 +2,14 @@
 
 A row gives the file's name, the search that finds its model (`python3 conformance/search.py` and
 these words; empty where the search was not kept), what holds of it, and the model itself.
-`python3 conformance/search.py --check` finds every row again and tries what is said to hold.
+`python3 conformance/search.py --check` finds every row again that names a search, and tries what is said to hold of each.
 """
 
 from collections import namedtuple
 
 Edge = namedtuple("Edge", "name search holds R epsilon T rewards rates")
 
-# What may hold of a model. A plain name is that of a wrong calculator of mutants.py, which prints another sheet than
+# What may hold of a model. A plain name is that of a wrong calculator of mistakes.py, which prints another sheet than
 # the reference; "A against B": the two print different sheets.
 Level = namedtuple("Level", "n miss")        # t at n is its bound plus `miss`: n is the level, or n + 1 where miss > 0
 Half = namedtuple("Half", "state r side")    # the last division leaves half its divisor: 0; a little less: -1; more: 1

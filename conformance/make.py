@@ -69,18 +69,21 @@ def borders():
             yield (f"{name}-{k}" if times > 1 else name), make(rng)
 
 
+IMPOSSIBLE = {(8, 12), (9, 10)}     # rows of the refusal table that no file breaks together
+
+
 def pairs():
     """Files that break two rows of the refusal table: the first of the two is printed."""
-    impossible = {(8, 12), (9, 10)}
     for row in range(2, 12):
         for later in range(row + 1, 13):
-            if (row, later) not in impossible:
+            if (row, later) not in IMPOSSIBLE:
                 rng = random.Random(f"{row} and {later}")
                 yield f"refused-{row:02d}-before-{later:02d}", models.several(row, [later])(rng)
 
 
 def broken(row, states=65):
-    """A function that breaks one row of the refusal table in file B, by the least that breaks it."""
+    """A function that breaks one row of the refusal table in file B, by the least that breaks it (row 12: also where
+    no rates are left, so that E is 1)."""
     return {
         2: lambda file: file + b"\0",
         3: lambda file: put(file, 2, 1, 2),
@@ -102,7 +105,7 @@ def least_pairs():
         yield f"refused-01-before-{later:02d}-least", models.relength(broken(later)(B)[:12])
     for row in range(2, 12):
         for later in range(row + 1, 13):
-            if (row, later) not in {(4, 11), (8, 12), (9, 10)}:     # with 65 states there are no rates left
+            if (row, later) not in IMPOSSIBLE | {(4, 11)}:     # with 65 states there are no rates left
                 file = broken(later)(B)
                 yield f"refused-{row:02d}-before-{later:02d}-least", broken(row, 0 if later == 10 else 65)(file)
 
@@ -111,23 +114,26 @@ def three_states(rewards=(3, 2, 1), rates=((1_000, 2_000), (3_000, 4_000), (5_00
     return models.build(1, 3, 2, 1_000, T, rewards, rates)
 
 
+def in_one(state, one, others):
+    """A list for three states: one state's entry, and that of the others."""
+    return [one if k == state else others for k in (1, 2, 3)]
+
+
 def one_of_three():
     """A limit passed or met in one state of three: the first, the second, the last."""
     for state in (1, 2, 3):
-        def three(one, others):
-            return [one if k == state else others for k in (1, 2, 3)]
-        above, met = three((5_000_000, 5_000_001), (1, 2)), three((5_000_000, 5_000_000), (1, 2))
-        yield f"refused-09-reward-1000001-state-{state}-of-3", three_states(rewards=three(1_000_001, 7))
+        above, met = (in_one(state, row, (1, 2)) for row in ((5_000_000, 5_000_001), (5_000_000, 5_000_000)))
+        yield f"refused-09-reward-1000001-state-{state}-of-3", three_states(rewards=in_one(state, 1_000_001, 7))
         yield f"refused-11-row-sum-10000001-state-{state}-of-3", three_states(rates=above, T=1)
-        yield f"border-reward-1-state-{state}-of-3", three_states(rewards=three(1, 0))
+        yield f"border-reward-1-state-{state}-of-3", three_states(rewards=in_one(state, 1, 0))
         yield f"border-row-sum-10000000-state-{state}-of-3", three_states(rates=met, T=1)
 
 
 def two_of_three():
     """Two rows of the refusal table broken in different states, the one that counts behind the other."""
     for state in (2, 3):
-        rewards = [1_000_001 if k == state else 7 for k in (1, 2, 3)]
-        rates = [(5_000_000, 5_000_001) if k == state else (1_000_000, 2_000_000) for k in (1, 2, 3)]
+        rewards = in_one(state, 1_000_001, 7)
+        rates = in_one(state, (5_000_000, 5_000_001), (1_000_000, 2_000_000))
         yield f"refused-09-before-11-state-{state}-of-3", three_states(rewards, ((10_000_001, 0), (1, 2), (1, 2)))
         yield f"refused-11-before-12-state-{state}-of-3", three_states(rates=rates)
 

@@ -26,7 +26,7 @@ def program(name, what, *changes, time_limit=60):
     return Wrong(name, what, changes, time_limit)
 
 
-# --- Parts of the reference that several entries change ------------------------------------------
+# --- Parts of the reference that the entries change ------------------------------------------
 
 NUMBER = 'int.from_bytes(file[start:start + size], "big")'
 RATES = "[[number(file, first + i * row_size + 4 * k, 4) for k in range(M - 1)] for i in range(M)]"
@@ -37,7 +37,7 @@ MEAN = "sum(map(mul, row, vector)) // model.E"
 MEANS = "V = row_means(model, before[r])"
 W = "f * u // model.F for f, u in zip(model.f, vectors[r - 1])"
 MIX = "(n * v + r * w) // (n + r)"
-MIXED = "[(n * v + r * w) // (n + r) for v, w in zip(V, W)]"
+MIXED = f"[{MIX} for v, w in zip(V, W)]"
 WEIGHTS = "    w[m] = TOP_WEIGHT\n"
 WEIGHTS_M = "m = X // MILLION\n    w = "
 RIGHT = "w[n] * X // ((n + 1) * MILLION)"
@@ -46,16 +46,16 @@ TAIL_M = "m = X // MILLION\n    return 1 "
 T_QUOTIENT = "(w[n] + n - m) * X // ((n + 1) * MILLION - X)"
 TAIL = "1 + " + T_QUOTIENT
 FROM_Q = "n * MILLION >= X and "
-T_TEST = "tail(w, X, n) <= S * epsilon // BILLION"
 BOUND = "S * epsilon // BILLION"
+T_TEST = "tail(w, X, n) <= " + BOUND
 SUM_S = "        S += w[n]\n"
 LEVEL_FOUND = "            return n\n"
-A = "sum(w[n] * U[n][r][i] // ONE for n in range(N + 1))"
 TERM = "w[n] * U[n][r][i] // ONE"
+A = f"sum({TERM} for n in range(N + 1))"
 LAST = "A * ONE // sum(w[:N + 1])"
 CELL = "cells[(i - 1) * model.R + (r - 1)] = "
 FIGURE = "{ticks // ONE}.{ticks % ONE:012d}"
-LINE = '{i} {r} {ticks // ONE}.{ticks % ONE:012d}"'
+LINE = "{i} {r} " + FIGURE + '"'
 ENDED = 'line + "\\n" for line in lines'
 ENCODED = 'encode("ascii")'
 INPUT = "file = file[:READ_LIMIT]"

@@ -218,9 +218,7 @@ def main(arguments):
         return 2
     try:
         return behave_as(arguments[1]) if arguments else judge_all()
-    except BrokenPipeError:
-        raise
-    except (OSError, ValueError) as error:
+    except ValueError as error:        # a text of mistakes.py that is wrong
         print(f"mutants.py: {error}", file=sys.stderr)
         return 2
 

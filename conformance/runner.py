@@ -105,8 +105,8 @@ def run(command, file, time_limit=None):
     timer = threading.Timer(time_limit, give_up)
     timer.start()
     try:
-        output = process.stdout.read(OUTPUT_LIMIT)
-        if len(output) == OUTPUT_LIMIT:
+        output = process.stdout.read(OUTPUT_LIMIT + 1)
+        if len(output) > OUTPUT_LIMIT:
             return output, f"more than {OUTPUT_LIMIT} bytes of output"
         status = process.wait()
     finally:
@@ -124,12 +124,16 @@ def run(command, file, time_limit=None):
 # --- Scripts -----------------------------------------------------------------------------------
 
 def leave(main, *arguments):
-    """Runs a script's main and exits with its status; quietly, with 2, where nobody reads its output any more."""
+    """Runs a script's main and exits with its status: 2 where the system refuses something, in a line of its words,
+    and where nobody reads the output any more, quietly."""
     try:
         status = main(*arguments)
         print(end="", flush=True)
     except BrokenPipeError:
         os.dup2(os.open(os.devnull, os.O_WRONLY), sys.stdout.fileno())
+        status = 2
+    except OSError as error:
+        print(f"{os.path.basename(sys.argv[0])}: {error}", file=sys.stderr)
         status = 2
     sys.exit(status)
 

@@ -3,10 +3,10 @@
 
     python3 conformance/search.py                         the searches, one line each
     python3 conformance/search.py NAME [--from K] [--to K] [--step D] [--seed S] [--finds F] [--seconds T]
-    python3 conformance/search.py WRONG --against OTHER   two calculators of mutants.py against each other
-    python3 conformance/search.py --check                 every row of edges.py is found again and holds
+    python3 conformance/search.py WRONG --against OTHER   two calculators of mistakes.py against each other
+    python3 conformance/search.py --check                 every row of edges.py holds, and its search finds it
 
-NAME is a search of the list or a wrong calculator of mutants.py. A search makes numbered tries: number K
+NAME is a search of the list or a wrong calculator of mistakes.py. A search makes numbered tries: number K
 always gives the same models. What it finds is printed as rows of edges.py.
 """
 
@@ -113,7 +113,7 @@ def family_for(name):
 def read_options(words):
     """The options of a search; one line and status 2 where they are wrong."""
     parser = models.Parser(prog="search.py", description="Search for edge files of the kit.")
-    parser.add_argument("name", help="a search, or a wrong calculator of mutants.py")
+    parser.add_argument("name", help="a search, or a wrong calculator of mistakes.py")
     parser.add_argument("--against", metavar="OTHER", help="a second wrong calculator in place of the reference")
     parser.add_argument("--family", choices=sorted(FAMILIES), help="the models to try")
     parser.add_argument("--seed", type=int, default=1)

@@ -84,7 +84,7 @@ class Ends(unittest.TestCase):
 
     def test_output_without_end(self):
         output, trouble = runner.run(["yes"], FILE, 30)
-        self.assertEqual((len(output), trouble), (runner.OUTPUT_LIMIT, "more than 1000000 bytes of output"))
+        self.assertEqual((len(output), trouble), (runner.OUTPUT_LIMIT + 1, "more than 1000000 bytes of output"))
 
     def test_no_such_command(self):
         with self.assertRaises(OSError):
