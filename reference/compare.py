@@ -86,17 +86,11 @@ def compare(command, count, seed):
 
 def main():
     given = options()
-    try:
-        command = given.command or built()
-        if not command:
-            return 2
-        print(f"comparing {given.count} models, seed {given.seed}", flush=True)
-        return compare(command, given.count, given.seed)
-    except BrokenPipeError:
-        raise
-    except OSError as error:
-        print(f"compare.py: {error}", file=sys.stderr)
+    command = given.command or built()
+    if not command:
         return 2
+    print(f"comparing {given.count} models, seed {given.seed}", flush=True)
+    return compare(command, given.count, given.seed)
 
 
 if __name__ == "__main__":

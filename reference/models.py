@@ -25,9 +25,6 @@ MAX_ROW_SUM = 10_000_000
 MAX_X = 256_000_000
 MAX_WORD = 2**32 - 1
 
-# X, n and a tolerance for which the level stands on a knife's edge at n: the kit's files of this kind.
-LEVEL_EDGES = [(row.rates[0][0] * row.T, row.holds[0].n, row.epsilon) for row in edges.LEVEL_ROWS]
-
 
 # --- Bytes ----------------------------------------------------------------------------------
 
@@ -246,9 +243,8 @@ def large_primes(rng):
 
 
 def level_edge(rng):
-    X, _, eps = rng.choice(LEVEL_EDGES)
-    E, T = factors(X)
-    return fields_for(rng, rng.randint(2, 3), E, T, R=rng.randint(1, 2), eps=eps)
+    row = rng.choice(edges.LEVEL_ROWS)
+    return fields_for(rng, rng.randint(2, 3), row.rates[0][0], row.T, R=rng.randint(1, 2), eps=row.epsilon)
 
 
 def rounding_edge(rng):

@@ -15,6 +15,7 @@ sys.path.insert(0, HERE)
 
 import calculator  # noqa: E402
 import models  # noqa: E402
+import edges  # noqa: E402
 from calculator import ONE, outcome, sheet  # noqa: E402
 
 A = bytes.fromhex("00 0F 01 01 01 00 00 27 10 00 00 00 01 00 00 00 05")
@@ -197,10 +198,11 @@ class WhereHandSolutionsGoWrong(unittest.TestCase):
 class Level(unittest.TestCase):
 
     def test_edges(self):
-        for X, n, epsilon in models.LEVEL_EDGES:
+        for row in edges.LEVEL_ROWS:
+            X, (n, miss) = row.rates[0][0] * row.T, row.holds[0]
             w = calculator.weights(X, n)
-            keeps = calculator.tail(w, X, n) <= sum(w) * epsilon // 10**9
-            self.assertEqual(calculator.level(X, epsilon), n if keeps else n + 1)
+            self.assertEqual(calculator.tail(w, X, n) - sum(w) * row.epsilon // 10**9, miss, row.name)
+            self.assertEqual(calculator.level(X, row.epsilon), n + (miss > 0), row.name)
 
     def test_heaviest(self):
         self.assertEqual(calculator.level(256_000_000, 1), 358)
