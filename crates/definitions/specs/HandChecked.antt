@@ -1,5 +1,5 @@
--- "Hand-checked files": the ten starred entries, as one list and one statement over it. Beside them, and apart from the ten,
--- the average of B and the places "Where hand solutions go wrong".
+-- "Hand-checked files": the ten starred entries, as one list and one statement over it, B's moments being those of document 02, S-1.
+-- Beside them, and apart from the ten, the average of B, the places "Where hand solutions go wrong", and the last quotient's rounding.
 use Prim.Native.Nat.{ℕ, _<_}
 use mathlib.Core.List.{List, [], _∷_}
 use mathlib.Core.Logic.{_≢_}
@@ -14,7 +14,7 @@ use Rattle.definitions.specs.Rules.{accepted, refused, framing, quantiti
 use Rattle.definitions.specs.Vectors.{ONE, rowMean, rewardShare, mix, nextEntry, firstVectors, nextVectors, U}
 use Rattle.definitions.specs.Weights.{mode, rightward, leftward, weight, weightSum}
 use Rattle.definitions.specs.Level.{tailBound, allowance, passes?, firstFrom, level}
-use Rattle.definitions.specs.Moment.{term, weighted, lastQuotient, weightedMean, moment, cell, modelLevel, outcome, cellsAfter}
+use Rattle.definitions.specs.Moment.{term, weighted, nearest, lastQuotient, weightedMean, moment, cell, modelLevel, outcome, cellsAfter}
 use Rattle.definitions.specs.Fraction.{Same, ratio, total, power}
 use Rattle.definitions.specs.Average.{exactMean, exactShare, exactMix, exactFirst, exactNext, exactU, factorial, exactWeight, averageOf, average}
 use Rattle.definitions.specs.Sheet.{digit, digits, places, decimal, figure, momentLine, momentLines, levelLine, sheetOf, sheet, printedSheet}
@@ -63,7 +63,7 @@ AllHold (e ∷ rest) = Holds e × AllHold rest
 abbrev pub starred : List Entry
 starred =
     calculated fileA 1 (ONE ∷ [])
-    ∷ calculated fileB 3 (718749999999 ∷ 612499999999 ∷ 281249999999 ∷ 174999999999 ∷ [])
+    ∷ calculated fileB 3 (718750000000 ∷ 612500000000 ∷ 281250000000 ∷ 175000000000 ∷ [])
     ∷ numbers (1000000000000000 ∷ 1000000000000000 ∷ 500000000000000 ∷ 166666666666666 ∷ []) (firsts 4 (weight XB))
     ∷ numbers (250000000000001 ∷ 250000000000000 ∷ 0 ∷ []) (tailBound XB 2 ∷ allowance XB εB 2 ∷ pick (passes? XB εB 2) 1 0 ∷ [])
     ∷ numbers (499999999999 ∷ 499999999999 ∷ []) (firsts 2 (U chainB 3 1))
@@ -75,7 +75,7 @@ starred =
     ∷ []
 
 pub hand-checked : AllHold starred
-unfolding sum largest anyAbove firsts over big jumpRate rowSum uniformRate c maxReward jumpMillionths framing quantities jumps room rows firstHeld judgement rowMean rewardShare mix nextEntry firstVectors nextVectors U mode rightward leftward weight weightSum tailBound allowance passes? firstFrom level term weighted lastQuotient weightedMean moment cell modelLevel outcome cellsAfter
+unfolding sum largest anyAbove firsts over big jumpRate rowSum uniformRate c maxReward jumpMillionths framing quantities jumps room rows firstHeld judgement rowMean rewardShare mix nextEntry firstVectors nextVectors U mode rightward leftward weight weightSum tailBound allowance passes? firstFrom level term weighted nearest lastQuotient weightedMean moment cell modelLevel outcome cellsAfter
 hand-checked = ((refl, refl), ((refl, refl), (refl, (refl, (refl, (refl, (refl, (refl, (refl, (refl, tt))))))))))
 
 -- B's F is above 0
@@ -96,16 +96,29 @@ right-values = (refl, refl)
 pub wrong-values : (U chainB 1 1 1 ≢ 250000000000) × (U chainB 1 2 0 ≢ 666666666666)
 wrong-values = (omega (arith, right-values .0), omega (arith, right-values .1))
 
--- B's printed sheet, as document 01 shows it
+-- the last quotient's rounding: quarters and thirds to the nearest, a half going up. A term of A that ends in a half or more still goes down.
+pub quarters : firsts 9 (λ a. nearest a 4) ≡ 0 ∷ 0 ∷ 1 ∷ 1 ∷ 1 ∷ 1 ∷ 2 ∷ 2 ∷ 2 ∷ []
+unfolding firsts nearest
+quarters = refl
+
+pub thirds : firsts 7 (λ a. nearest a 3) ≡ 0 ∷ 0 ∷ 1 ∷ 1 ∷ 1 ∷ 2 ∷ 2 ∷ []
+unfolding firsts nearest
+thirds = refl
+
+pub terms-down : firsts 4 (λ w. term w 500000000000) ≡ 0 ∷ 0 ∷ 1 ∷ 1 ∷ []
+unfolding firsts term
+terms-down = refl
+
+-- B's printed sheet, with the figures of document 02, S-1
 abbrev pub sheetB : List ℕ
 sheetB =
     108 ∷ 101 ∷ 118 ∷ 101 ∷ 108 ∷ 32 ∷ 51 ∷ 10
-    ∷ 49 ∷ 32 ∷ 49 ∷ 32 ∷ 48 ∷ 46 ∷ 55 ∷ 49 ∷ 56 ∷ 55 ∷ 52 ∷ 57 ∷ 57 ∷ 57 ∷ 57 ∷ 57 ∷ 57 ∷ 57 ∷ 10
-    ∷ 49 ∷ 32 ∷ 50 ∷ 32 ∷ 48 ∷ 46 ∷ 54 ∷ 49 ∷ 50 ∷ 52 ∷ 57 ∷ 57 ∷ 57 ∷ 57 ∷ 57 ∷ 57 ∷ 57 ∷ 57 ∷ 10
-    ∷ 50 ∷ 32 ∷ 49 ∷ 32 ∷ 48 ∷ 46 ∷ 50 ∷ 56 ∷ 49 ∷ 50 ∷ 52 ∷ 57 ∷ 57 ∷ 57 ∷ 57 ∷ 57 ∷ 57 ∷ 57 ∷ 10
-    ∷ 50 ∷ 32 ∷ 50 ∷ 32 ∷ 48 ∷ 46 ∷ 49 ∷ 55 ∷ 52 ∷ 57 ∷ 57 ∷ 57 ∷ 57 ∷ 57 ∷ 57 ∷ 57 ∷ 57 ∷ 57 ∷ 10
+    ∷ 49 ∷ 32 ∷ 49 ∷ 32 ∷ 48 ∷ 46 ∷ 55 ∷ 49 ∷ 56 ∷ 55 ∷ 53 ∷ 48 ∷ 48 ∷ 48 ∷ 48 ∷ 48 ∷ 48 ∷ 48 ∷ 10
+    ∷ 49 ∷ 32 ∷ 50 ∷ 32 ∷ 48 ∷ 46 ∷ 54 ∷ 49 ∷ 50 ∷ 53 ∷ 48 ∷ 48 ∷ 48 ∷ 48 ∷ 48 ∷ 48 ∷ 48 ∷ 48 ∷ 10
+    ∷ 50 ∷ 32 ∷ 49 ∷ 32 ∷ 48 ∷ 46 ∷ 50 ∷ 56 ∷ 49 ∷ 50 ∷ 53 ∷ 48 ∷ 48 ∷ 48 ∷ 48 ∷ 48 ∷ 48 ∷ 48 ∷ 10
+    ∷ 50 ∷ 32 ∷ 50 ∷ 32 ∷ 48 ∷ 46 ∷ 49 ∷ 55 ∷ 53 ∷ 48 ∷ 48 ∷ 48 ∷ 48 ∷ 48 ∷ 48 ∷ 48 ∷ 48 ∷ 48 ∷ 10
     ∷ []
 
 pub sheet-of-B : printedSheet fileB ≡ sheetB
-unfolding sum largest anyAbove firsts over big jumpRate rowSum uniformRate c maxReward jumpMillionths framing quantities jumps room rows firstHeld judgement rowMean rewardShare mix nextEntry firstVectors nextVectors U mode rightward leftward weight weightSum tailBound allowance passes? firstFrom level term weighted lastQuotient weightedMean moment cell modelLevel outcome cellsAfter digit digits places decimal figure momentLine momentLines levelLine sheetOf sheet printedSheet
+unfolding sum largest anyAbove firsts over big jumpRate rowSum uniformRate c maxReward jumpMillionths framing quantities jumps room rows firstHeld judgement rowMean rewardShare mix nextEntry firstVectors nextVectors U mode rightward leftward weight weightSum tailBound allowance passes? firstFrom level term weighted nearest lastQuotient weightedMean moment cell modelLevel outcome cellsAfter digit digits places decimal figure momentLine momentLines levelLine sheetOf sheet printedSheet
 sheet-of-B = refl

@@ -1,4 +1,4 @@
--- "Moment": A, the last quotient, the cells after a call, and its outcome.
+-- "Moment": A, the last quotient (rounded as document 02, S-1, has it), the cells after a call, and its outcome.
 use Prim.Native.Nat.{ℕ, suc, _+_, _*_, _-_, _/_, _%_}
 use mathlib.Core.List.{List}
 use Rattle.definitions.specs.declared.Outcome.{Outcome}
@@ -18,9 +18,13 @@ term w u = w * u / ONE
 unfoldable pub weighted : ℕ → (ℕ → ℕ) → ℕ → ℕ
 weighted X u N = sum (suc N) (λ n. term (weight X n) (u n))
 
--- the last quotient: A × 10^12 over S(N), down
+-- a over c to the nearest whole number, a half going up: a / c + 1/2, down
+unfoldable pub nearest : ℕ → ℕ → ℕ
+nearest a c = (2 * a + c) / (2 * c)
+
+-- the last quotient: A × 10^12 over S(N), to the nearest tick
 unfoldable pub lastQuotient : ℕ → ℕ → ℕ
-lastQuotient a s = a * ONE / s
+lastQuotient a s = nearest (a * ONE) s
 
 -- the weighted mean of u(0), …, u(N), in ticks
 unfoldable pub weightedMean : ℕ → (ℕ → ℕ) → ℕ → ℕ

@@ -15,7 +15,7 @@ use Rattle.laws.specs.LevelLaws.{level-is, level-max, level-mode}
 use Rattle.laws.specs.VectorLaws.{U-bound}
 use Rattle.laws.specs.VectorError.{vector-near}
 use Rattle.laws.specs.AverageBound.{Setting, LastQuotient, close-at-level, close-past-level}
-use Rattle.laws.specs.MomentLaws.{getD-moment, last-down}
+use Rattle.laws.specs.MomentLaws.{getD-moment, last-within}
 use Rattle.laws.specs.Acceptance.{WithinLimits, AcceptedFile, accepted-file, stochastic}
 
 module _ (m : Model) (g : WithinLimits m) where
@@ -53,7 +53,7 @@ module _ (m : Model) (g : WithinLimits m) where
   unfolding moment
   moment-close r i l =
       close-of r i _ l
-      (last-down (jumpMillionths m) (modelLevel m) (sequence r i)
+      (last-within (jumpMillionths m) (modelLevel m) (sequence r i)
       (unfold modelLevel in level-mode (jumpMillionths m) (m .tolerance) (g .jumps-max) (g .tolerance-pos))
       (λ n h. U-bound (chainOf m) (stochastic m) n r i l))
 

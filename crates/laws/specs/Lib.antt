@@ -1,5 +1,6 @@
 -- Theorems about document 01's definitions. No code is named here.
 pub mod Rounding
+pub mod Nearest
 pub mod SumLaws
 pub mod ListLaws
 pub mod ChainLaws

@@ -11,7 +11,8 @@ use Rattle.definitions.specs.Vectors.{ONE}
 use Rattle.definitions.specs.Weights.{mode, weight, weightSum}
 use Rattle.definitions.specs.Moment.{term, weighted, lastQuotient, weightedMean, moment, cellOf, cell, modelLevel, outcome}
 use Rattle.definitions.specs.Rules.{Answer, accepted, refused, rows, judgement}
-use Rattle.laws.specs.Rounding.{quotient-low, quotient-high, quotient-at-most, quotient-unique, quotient-below, remainder-below, remainder-unique}
+use Rattle.laws.specs.Rounding.{quotient-at-most, quotient-unique, quotient-below, remainder-below, remainder-unique}
+use Rattle.laws.specs.Nearest.{nearest-within, nearest-at-most, nearest-of-halves}
 use Rattle.laws.specs.SumLaws.{sum-mono}
 use Rattle.laws.specs.RuleLaws.{accepted-is-no-refusal, other-value}
 use Rattle.laws.specs.ListLaws.{getD-over}
@@ -59,17 +60,30 @@ weighted-max X N u h =
     sum-mono (suc N) (λ n. weight X n * u n / ONE) (weight X)
     (λ n l. quotient-at-most (weight X n * u n) (weight X n) ONE (mul-le-mul-left (weight X n) (h n (omega arith))))
 
--- rounded down, the last quotient is within one tick and in [0, 1]
-pub last-down : (X N : ℕ) (u : ℕ → ℕ) → mode X ≤ N → ((n : ℕ) → n ≤ N → u n ≤ ONE) → LastQuotient (weighted X u N) (weightSum X N) (weightedMean X u N)
+-- the last quotient is at most ONE where A is at most S
+pub last-max : (A S : ℕ) → 0 < S → A ≤ S → lastQuotient A S ≤ ONE
+unfolding lastQuotient
+last-max A S pos h = nearest-at-most (A * ONE) ONE S pos (omega (arith, h))
+
+-- from half ticks, rounded down: one more, halved
+pub last-of-halves : (A S : ℕ) → 0 < S → lastQuotient A S ≡ (A * (2 * ONE) / S + 1) / 2
+unfolding lastQuotient
+last-of-halves A S pos =
+    let twice : 2 * (A * ONE) ≡ A * (2 * ONE) = omega arith in
+    nearest-of-halves (A * ONE) S pos ∙ ap (λ (n : ℕ). (n / S + 1) / 2) twice
+
+-- it is within one tick and in [0, 1]
+pub last-within : (X N : ℕ) (u : ℕ → ℕ) → mode X ≤ N → ((n : ℕ) → n ≤ N → u n ≤ ONE) → LastQuotient (weighted X u N) (weightSum X N) (weightedMean X u N)
 unfolding weightedMean lastQuotient
-last-down X N u reached h =
+last-within X N u reached h =
     let A : ℕ = weighted X u N in
     let S : ℕ = weightSum X N in
     let pos : 0 < S = omega (arith, weightSum-min X N reached) in
+    let half = nearest-within (A * ONE) S pos in
     record {
-      low = omega (arith, quotient-low (A * ONE) S);
-      high = omega (arith, quotient-high (A * ONE) S pos);
-      top = quotient-at-most (A * ONE) ONE S (omega (arith, weighted-max X N u h));
+      low = omega (arith, half .above);
+      high = omega (arith, half .below);
+      top = last-max A S pos (weighted-max X N u h);
     }
 
 -- the outcome of a refused file, and of an accepted one

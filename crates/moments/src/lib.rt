@@ -1,6 +1,6 @@
 // The moments of the accumulated reward: a file in, the level and the moments out.
 ghost use mathlib.Core.Path.{_≡_};
-ghost use Prim.Native.Nat.{_+_, _*_, _≤_};
+ghost use Prim.Native.Nat.{_+_, _*_, _^_, _<_, _≤_};
 ghost use lib.ListN.{length, getD};
 ghost use Rattle.definitions.specs.Sums.{over};
 ghost use Rattle.definitions.specs.Chain.{arrays, modelOf};
@@ -80,13 +80,23 @@ fn accumulate(
     sums
 }
 
-// The moments of all cells: A * 10^12 over S(N), down.
+// The last quotient: A * 10^12 over S(N), to the nearest tick, a half going up. The half ticks are
+// rounded down; one half more, cut to whole ticks, is the nearest.
+fn last_quotient(sum: u64, total: u64) -> u64
+    requires { ⌜ (sum ≤ total) × (0 < total) × (total < 2 ^ 62) ⌝ }
+    ensures { λ r. ⌜ r ≡ lastQuotient sum total ⌝ }
+{
+    let half_ticks = muldiv::scaled(sum, 2 * ONE, total);
+    (half_ticks + 1) / 2
+}
+
+// The moments of all cells: the last quotient of each sum.
 fn write_moments(sums: &[u64; 512], total: u64, count: usize, cells: &mut [u64])
     requires { ⌜ Divisible (now sums) total count × (count ≤ length (now cells)) ⌝ }
     ensures { λ r. ⌜ now (cells .exit) ≡ over count (λ k. lastQuotient (getD (now (sums .entry)) k 0) total) (now (cells .entry)) ⌝ }
 {
     for k in 0..count {
-        cells[k] = muldiv::scaled(sums[k], ONE, total);
+        cells[k] = last_quotient(sums[k], total);
     }
 }
 

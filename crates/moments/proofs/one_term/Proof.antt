@@ -1,7 +1,6 @@
 -- One term of A: small weights by a plain product, the others by multiply-then-divide.
 use native.Mathlib.Nat.{mul-le-mul}
 use native.Mathlib.Omega.{arith}
-use mathlib.Core.Path.{refl}
 use Rattle.definitions.specs.Vectors.{ONE}
 use Rattle.definitions.specs.Moment.{term}
 use Rattle.muldiv.specs.QuotientLaws.{scalable-part}
@@ -14,7 +13,7 @@ mul-result c = record { fits = omega (arith, mul-le-mul (c .if1 .taken) (c .befo
 
 returns : tie.Need-returns
 unfolding term
-returns c = (refl, term-max (c .before .args .w) (c .before .args .u) (c .before .pre .1))
+returns c = (omega arith, term-max (c .before .args .w) (c .before .args .u) (c .before .pre .1))
 
 scaled-requires : tie.Need-scaled-requires
 scaled-requires c κs = scalable-part (c .before .args .w) (c .before .args .u) ONE (omega arith) (omega arith) (omega arith) (omega arith)

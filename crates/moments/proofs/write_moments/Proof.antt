@@ -1,14 +1,11 @@
 -- The cells are filled one after the other.
 use Prim.Native.Nat.{_-_, _≤_}
-use native.Mathlib.Nat.{mul-le-mul-right}
 use native.Mathlib.Omega.{arith}
 use mathlib.Core.Path.{_≡_, refl, sym}
 use lib.ListN.{length, getD, length-set}
 use Rattle.definitions.specs.Sums.{over}
-use Rattle.definitions.specs.Vectors.{ONE}
 use Rattle.definitions.specs.Moment.{lastQuotient}
 use Rattle.laws.specs.ListLaws.{over-none, over-store}
-use Rattle.muldiv.specs.QuotientLaws.{scalable-by}
 use Rattle.moments.proofs.write_moments.Statement.{statement}
 use Rattle.moments.proofs.write_moments.Tie as tie
 
@@ -22,19 +19,16 @@ abbrev μ-loop : tie.MeasureT-loop
 loop-holds : tie.Need-loop-holds Inv-loop μ-loop
 loop-holds c = (omega arith, sym (over-none _ _), refl)
 
-mul-scaled : tie.Need-mul-scaled Inv-loop μ-loop
-mul-scaled c = omega arith
+mul-last-quotient : tie.Need-mul-last-quotient Inv-loop μ-loop
+mul-last-quotient c = omega arith
 
-element-copy-out-scaled : tie.Need-element-copy-out-scaled Inv-loop μ-loop
-element-copy-out-scaled c = omega arith
+element-copy-out-last-quotient : tie.Need-element-copy-out-last-quotient Inv-loop μ-loop
+element-copy-out-last-quotient c = omega arith
 
-scaled-requires : tie.Need-scaled-requires Inv-loop μ-loop
-scaled-requires c κs =
-    let start = c .before .before .before .before in
-    let k = c .before .before .loop .k in
-    let a = getD (start .args .sums .now) k 0 in
-    let below = start .pre .0 .below k (c .before .loop-test .taken) in
-    scalable-by a ONE (start .args .total) ONE (start .pre .0 .total-pos) (omega arith) (omega arith) (start .pre .0 .total-max) (omega (arith, mul-le-mul-right ONE below)) (omega arith)
+last-quotient-requires : tie.Need-last-quotient-requires Inv-loop μ-loop
+last-quotient-requires c κs =
+    let sums = c .before .before .before .before .pre .0 in
+    (sums .below (c .before .before .loop .k) (c .before .loop-test .taken), sums .total-pos, sums .total-max)
 
 mul-cells : tie.Need-mul-cells Inv-loop μ-loop
 mul-cells c = omega arith
@@ -49,10 +43,9 @@ loop-less : tie.Need-loop-less Inv-loop μ-loop
 loop-less c = omega arith
 
 loop-again : tie.Need-loop-again Inv-loop μ-loop
-unfolding lastQuotient
 loop-again c =
     let at = c .before .before .before in
-    (omega arith, over-store (at .loop .k) _ _ _ (c .scaled .result) (omega arith) (at .loop .inv .1) (c .scaled .ensures), simp length-set (at .loop .inv .2))
+    (omega arith, over-store (at .loop .k) _ _ _ (c .last-quotient .result) (omega arith) (at .loop .inv .1) (c .last-quotient .ensures), simp length-set (at .loop .inv .2))
 
 same-length : tie.Need-same-length Inv-loop μ-loop
 same-length c = c .before .loop .inv .2
@@ -69,9 +62,9 @@ write-moments-spec =
     Inv-loop
     μ-loop
     loop-holds
-    mul-scaled
-    element-copy-out-scaled
-    scaled-requires
+    mul-last-quotient
+    element-copy-out-last-quotient
+    last-quotient-requires
     mul-cells
     slice-write-cells
     add-k
