@@ -1,7 +1,8 @@
 #!/usr/bin/env python3
 """Reference calculator: moments of the accumulated reward of a repairable system.
 
-Written from document 01 alone, in plain whole numbers, with the paper's letters.
+Written from document 01 and request S-1 of document 02 alone, in plain whole numbers,
+with the paper's letters. S-1 decides the last division; every other rounding is down.
 Reads a model file from standard input and prints its sheet:
 
     python3 reference/calculator.py < examples/B.model
@@ -169,10 +170,16 @@ def level(X, epsilon):
 
 # --- Moments -----------------------------------------------------------------------------------
 
+def last_division(A, S):
+    """A * 10^12 over S, rounded to the nearest tick, a half going up."""
+    quotient, left = divmod(A * ONE, S)
+    return quotient + 1 if 2 * left >= S else quotient
+
+
 def moment(w, U, N, i, r):
     """The moment r at state i (counted from 0 here), in ticks."""
     A = sum(w[n] * U[n][r][i] // ONE for n in range(N + 1))
-    return A * ONE // sum(w[:N + 1])
+    return last_division(A, sum(w[:N + 1]))
 
 
 def outcome(file, cells):
