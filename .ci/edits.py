@@ -43,8 +43,9 @@ And the arithmetic tactic takes a product of two unknowns as one more unknown, s
 COUNTEREXAMPLE = re.compile(r"does not follow from what it read\. All of that holds, and the (?:goal|part) fails[.,]")
 DIFFER = re.compile(r"""the\ two\ types\ (?:(?:differ\ only|first\ differ)\ where\ one\ has|are)\s+`([^`]*)`\s+\(expected\)
                         (?:,\ (?:right\ after\s+`[^`]*`|at\ the\ start))?,?\s+and(?:\ the\ other\ has)?\s+`([^`]*)`\s+\(found\)""", re.X)
-# Names that Rattle makes for places in the code, and what antt left open: these differ where the shape does.
-SHAPE = re.compile(r"\b(?:Lts|Tie|Reads|lts|tie|reads)\.|\?\w")
+# Names that Rattle makes for places in the code, what antt left open, and an operator without its numbers: these differ where the shape does.
+SHAPE = re.compile(r"\b(?:Lts|Tie|Reads|lts|tie|reads)\.|\?\w|^(?:[\w·]+\.)*_[^\s_]+_$")
+NOT_COMPUTED = "what the two types compute to is not shown"
 
 
 def short(side):
@@ -61,7 +62,7 @@ def reason(message):
     if COUNTEREXAMPLE.search(message):
         return "counterexample"
     found = DIFFER.findall(message)
-    if not found or SHAPE.search(" ".join(found[-1])):
+    if not found or NOT_COMPUTED in message or any(map(SHAPE.search, found[-1])):
         return ""
     path = re.fullmatch(r"Path .* (\([^()]*\)) (\([^()]*\))", found[-1][0])
     left, right = map(short, path.groups() if path else found[-1])
@@ -114,6 +115,10 @@ SAMPLES = [
      ("f", "below", "counterexample")),
     ("T/proofs/f/Proof.antt:9:1: error: `below`: `omega` stopped at a bound of its own: the goal has more than 64 parts.\n", ("f", "below", "")),
     ("T/proofs/f/Proof.antt:9:1: error: `returns`: `search`: no proof of `a ≡ b` was found. Every way was tried\n", ("f", "returns", "")),
+    ("T/proofs/f/Proof.antt:9:1: error: `returns`: computed as far as they go, the two types first differ where one has `Prim.Native.Nat._*_` (expected) and the other has `Prim.Native.Nat._+_` (found)\n",
+     ("f", "returns", "")),
+    ("T/specs/Law.antt:9:1: error: `law`: as printed, the two types differ only where one has `9` (expected), right after `f ≡`, and the other has `f` (found)\n"
+     "  what the two types compute to is not shown, because one could not be computed (found: computing it took more than 200000 steps)\n", ("Law", "law", "")),
     ("T/specs/Law.antt:9:1: error: expected `×` after the Σ binder, found `:`\n", ("Law", "", "")),
     ("T/src/lib.rt:9:1: error[unknown-name]: cannot find `h` in this scope\n", ("lib", "", "")),
 ]

@@ -60,6 +60,9 @@ LEFT = {
 
 # --- The files ------------------------------------------------------------------------------------------------
 
+# Models of the comparison kit whose last division leaves half of its divisor for some moment, or a little less or more.
+HALVES = ["half-tick-1", "half-tick-2", "half-tick-3", "half-tick-less-1", "half-tick-more-2"]
+
 # A file with the cells lent, and the rule that stops it (0: none).
 Case = namedtuple("Case", "name rule file lent")
 
@@ -88,7 +91,8 @@ def accepted_files(rng):
         "at-the-borders": models.valid(2, 1, models.MAX_TOLERANCE, 1, [models.MAX_REWARD, 0], [[models.MAX_ROW_SUM], [rng.randint(1, 9)]]),
         "most-jumps": small(rng, 1, 1, T=256_000_000),
     }
-    return [(name, models.build(**each)) for name, each in fields.items()]
+    made = [(name, models.build(**each)) for name, each in fields.items()]
+    return made + [(name, (ROOT / f"conformance/files/{name}.model").read_bytes()) for name in HALVES]
 
 
 def refused_files(rng):

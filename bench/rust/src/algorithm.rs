@@ -493,9 +493,14 @@ mod moments {
         sums
     }
 
+    fn last_quotient(sum: u64, total: u64) -> u64 {
+        let half_ticks = muldiv::scaled(sum, 2 * ONE, total);
+        (half_ticks + 1) / 2
+    }
+
     fn write_moments(sums: &[u64; 512], total: u64, count: usize, cells: &mut [u64]) {
         for k in 0..count {
-            cells[k] = muldiv::scaled(sums[k], ONE, total);
+            cells[k] = last_quotient(sums[k], total);
         }
     }
 
