@@ -1,4 +1,5 @@
-//! Document 01's calculation, written from the paper alone, in plain u128 arithmetic.
+//! The calculation of document 01 with the last division of document 02's S-1, written from the papers alone, in
+//! plain u128 arithmetic.
 //!
 //! Nothing here was taken from the proved code: not its helper, not its order of work. Every product is
 //! formed whole in 128 bits and divided once, so each line can be read against the paper's sentence.
@@ -149,6 +150,12 @@ fn weigh(model: &Model) -> (Vec<u128>, usize) {
     }
 }
 
+/// A × 10^12 over S(N), rounded to the nearest tick, a half going up: half of S(N) is added before the division, and
+/// all is doubled so that this half is a whole number.
+fn last_division(a: u128, s: u128) -> u128 {
+    (2 * a * ONE + s) / (2 * s)
+}
+
 /// Judges `file`, and where no row of the table holds fills `cells[(i − 1) × R + (r − 1)]` with the moments,
 /// states counted from 1, and returns the level N. Otherwise returns the row, and leaves the cells alone.
 pub fn calculate(file: &[u8], cells: &mut [u64]) -> Result<u64, u8> {
@@ -190,10 +197,10 @@ pub fn calculate(file: &[u8], cells: &mut [u64]) -> Result<u64, u8> {
             }
         }
     }
-    // The moment is A × 10^12 over S(N).
+    // The moment: the final quotient alone is rounded to the nearest.
     for i in 0..states {
         for r in 1..=model.highest {
-            let moment = a[r][i] * ONE / total;
+            let moment = last_division(a[r][i], total);
             cells[i * model.highest + (r - 1)] = u64::try_from(moment).expect("a moment is at most ONE");
         }
     }
