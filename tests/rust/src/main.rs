@@ -82,7 +82,7 @@ impl Tally {
         exit(1);
     }
 
-    /// Document 01's own answer for a file, of both calculations.
+    /// The papers' own answer for a file, of both calculations.
     fn hand_checked(&mut self, name: &str, file: &[u8], cells: usize, answer: Result<u64, u8>, moments: &[u64]) {
         let input = Input { file: file.to_vec(), cells };
         let mut held = vec![marker(0); cells];
@@ -108,9 +108,9 @@ fn with_byte(file: &[u8], at: usize, byte: u8) -> Vec<u8> {
     file
 }
 
-/// The files of document 01: its examples of the table, and its hand-checked list.
+/// The files of document 01: its examples of the table, and its hand-checked list; B's moments are document 02's, S-1.
 fn papers(tally: &mut Tally) {
-    let b = [718749999999, 612499999999, 281249999999, 174999999999];
+    let b = [718_750_000_000, 612_500_000_000, 281_250_000_000, 175_000_000_000];
     tally.hand_checked("A", &A, 1, Ok(1), &[1_000_000_000_000]);
     tally.hand_checked("B", &B, 512, Ok(3), &b);
     tally.hand_checked("B with 4 cells", &B, 4, Ok(3), &b);
@@ -236,6 +236,10 @@ fn main() {
     for k in 0..8 {
         let input = Input { file: models::heaviest(&mut chance).bytes(), cells: 512 };
         tally.compare(&format!("seed {seed}, heavy {k}"), &input);
+    }
+    for k in 0..400 {
+        let input = Input { file: models::half_tick(&mut chance).bytes(), cells: 16 };
+        tally.compare(&format!("seed {seed}, half tick {k}"), &input);
     }
 
     let rows: Vec<String> = (1..=13).map(|k| format!("{k}: {}", tally.refusals[k])).collect();

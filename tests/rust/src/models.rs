@@ -282,6 +282,39 @@ pub fn small(chance: &mut Chance, k: usize) -> Input {
     }
 }
 
+/// Two states and N = 1: of 1,000 drawn pairs of rewards the one with which the last division of state 1's first moment
+/// comes nearest to a half. Two of three X have enough factors of two for a half to be met.
+pub fn half_tick(chance: &mut Chance) -> Fields {
+    let x = match chance.between(0, 2) {
+        0 => 48_576,
+        1 => 8_000 + 16_000 * chance.between(0, 29),
+        _ => chance.between(1, 474_000),
+    };
+    // S(1) is 10^9 × (1,000,000 + X), so A × 10^12 over it is 1,000 × A over 1,000,000 + X.
+    let divisor = 1_000_000 + x;
+    let off_half = |rewards: &[u64; 2]| {
+        let largest = rewards[0].max(rewards[1]);
+        let [first, second] = rewards.map(|f| f * 1_000_000_000_000 / largest);
+        let a = 1_000 * first + x * ((second + first) / 2) / 1_000;
+        (2 * (1_000 * a % divisor)).abs_diff(divisor)
+    };
+    let drawn = (0..1_000).map(|_| {
+        let largest = chance.scaled(1, 1_000_000);
+        let other = chance.between(0, largest);
+        if chance.one_in(2) { [largest, other] } else { [other, largest] }
+    });
+    let rewards = drawn.min_by_key(off_half).expect("1,000 pairs").map(|f| f as u32).to_vec();
+    Fields {
+        version: 1,
+        states: 2,
+        highest: chance.between(1, 8) as u8,
+        tolerance: 100_000_000,
+        time: 1,
+        rewards,
+        rates: vec![x as u32, chance.between(0, x) as u32],
+    }
+}
+
 /// The longest calculation: 64 states, R = 8, q = 256, tolerance 1, dense random rates.
 pub fn heaviest(chance: &mut Chance) -> Fields {
     let states = 64;
