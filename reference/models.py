@@ -252,6 +252,21 @@ def rounding_edge(rng):
     return edge_fields(rng.choice(edges.DIGIT_ROWS))
 
 
+def half_tick(rng):
+    """Two states and N = 1: of 1,000 drawn pairs of rewards the one with which the last division of state 1's first
+    moment comes nearest to a half. Two of three X have enough factors of two for a half to be met."""
+    X = rng.choice([48_576, 8_000 + 16_000 * rng.randint(0, 29), rng.randint(1, 474_000)])
+    S = 10**15 + 10**9 * X                                             # w(0) + w(1)
+
+    def off_half(rewards):
+        first, second = (f * 10**12 // max(rewards) for f in rewards)  # U(0,1)
+        A = 1_000 * first + X * ((second + first) // 2) // 1_000
+        return abs(2 * (A * 10**12 % S) - S)
+
+    drawn = [random_rewards(rng, 2, log_uniform(rng, 1, MAX_REWARD)) for _ in range(1_000)]
+    return valid(2, rng.randint(1, 8), MAX_TOLERANCE, 1, min(drawn, key=off_half), [[X], [rng.randint(0, X)]])
+
+
 def sparse(rng):
     E = log_uniform(rng, 1, MAX_ROW_SUM)
     return fields_for(rng, rng.randint(8, 16), E, random_time(rng, E), R=rng.randint(1, 3), fill=0.0)
@@ -279,6 +294,7 @@ def heaviest(rng):
     return fields_for(rng, 64, MAX_X // T, T, R=8, eps=1, fill=1.0)
 
 
+# conformance/make.py stores models of these kinds: one more here is two more files in the kit.
 SMALL_KINDS = [
     one_state, tiny, small, absorbing_states, all_rates_zero, q_below_1, q_whole_or_next, q_256,
     row_sum_largest, reward_largest, reward_in_one_state, rewards_equal, tolerance_smallest,
@@ -288,9 +304,11 @@ SMALL_KINDS = [
 
 
 def valid_kind(index):
-    """The kind of the valid model number `index`: mostly small, now and then a larger one."""
+    """The kind of the valid model number `index`: mostly small, now and then a larger one or one at half a tick."""
     if index % 100 == 47:
         return heaviest
+    if index % 10 == 6:
+        return half_tick
     if index % 40 == 23:
         return large
     if index % 20 == 11:
