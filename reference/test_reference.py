@@ -8,6 +8,7 @@ import subprocess
 import sys
 import unittest
 from fractions import Fraction
+from unittest import mock
 
 sys.dont_write_bytecode = True
 HERE = os.path.dirname(os.path.abspath(__file__))
@@ -16,16 +17,16 @@ sys.path.insert(0, HERE)
 import calculator  # noqa: E402
 import models  # noqa: E402
 import edges  # noqa: E402
-from calculator import ONE, outcome, sheet  # noqa: E402
+from calculator import ONE, last_division, outcome, sheet  # noqa: E402
 
 A = bytes.fromhex("00 0F 01 01 01 00 00 27 10 00 00 00 01 00 00 00 05")
 B = bytes.fromhex("00 1B 01 02 02 05 F5 E1 00 00 00 00 01 00 00 00 01 00 00 00 00"
                   "00 0F 42 40 00 0F 42 40")
 B_SHEET = (b"level 3\n"
-           b"1 1 0.718749999999\n"
-           b"1 2 0.612499999999\n"
-           b"2 1 0.281249999999\n"
-           b"2 2 0.174999999999\n")
+           b"1 1 0.718750000000\n"
+           b"1 2 0.612500000000\n"
+           b"2 1 0.281250000000\n"
+           b"2 2 0.175000000000\n")
 
 
 def put(file, start, size, value):
@@ -41,6 +42,19 @@ def expected_row(name):
     return {"accepted": 0, "valid": 0, "open": None}[word]
 
 
+def last_divisions(file):
+    """(A, S) of the last division of every moment, in the order of the cells."""
+    with mock.patch.object(calculator, "last_division", wraps=last_division) as watched:
+        sheet(file)
+    return [call.args for call in watched.call_args_list]
+
+
+def sheet_with(rule, file):
+    """The sheet of a file, with another rule for the last division."""
+    with mock.patch.object(calculator, "last_division", rule):
+        return sheet(file)
+
+
 class HandCheckedFiles(unittest.TestCase):
 
     def test_A(self):
@@ -52,7 +66,7 @@ class HandCheckedFiles(unittest.TestCase):
     def test_B(self):
         cells = [7] * 6
         self.assertEqual(calculator.calculate(B, cells), ("level", 3))
-        self.assertEqual(cells, [718749999999, 612499999999, 281249999999, 174999999999, 7, 7])
+        self.assertEqual(cells, [718750000000, 612500000000, 281250000000, 175000000000, 7, 7])
 
     def test_sheet_of_B(self):
         self.assertEqual(sheet(B), B_SHEET)
@@ -173,8 +187,8 @@ class WhereHandSolutionsGoWrong(unittest.TestCase):
 
     def test_divided_by_S_and_not_by_e_to_the_q(self):
         w = calculator.weights(1_000_000, 3)
-        self.assertEqual(calculator.moment(w, self.U, 3, 0, 1), 718749999999)
-        divided_by_e = 0.718749999999 * sum(w) / (10**15 * math.e)
+        self.assertEqual(calculator.moment(w, self.U, 3, 0, 1), 718750000000)
+        divided_by_e = 0.71875 * sum(w) / (10**15 * math.e)
         self.assertAlmostEqual(divided_by_e, 0.7051, places=4)
 
     def test_weights_start_at_m(self):
@@ -230,12 +244,151 @@ class Level(unittest.TestCase):
             self.assertLessEqual(calculator.level(X, 1), 1024)
 
 
+class LastDivision(unittest.TestCase):
+    """S-1: the final quotient alone is rounded to the nearest tick, a half going up."""
+
+    # Other rules, each a slip in this one.
+    WRONG = {
+        "down": lambda A, S: A * ONE // S,
+        "up": lambda A, S: -(-A * ONE // S),
+        "a half going down": lambda A, S: -((S - 2 * A * ONE) // (2 * S)),
+        "a half to the even one": lambda A, S: round(Fraction(A * ONE, S)),
+    }
+
+    def check(self, A, S, ticks):
+        self.assertEqual(last_division(A, S), ticks, (A, S))
+
+    def test_small_quotients(self):
+        # A over d, which is A * 10^12 over d * 10^12, for A = 0, 1, 2, ...
+        for d, nearest in ((1, [0, 1, 2, 3]),
+                           (2, [0, 1, 1, 2, 2, 3, 3, 4]),
+                           (3, [0, 0, 1, 1, 1, 2, 2, 2, 3]),
+                           (4, [0, 0, 1, 1, 1, 1, 2, 2, 2, 2, 3]),
+                           (5, [0, 0, 0, 1, 1, 1, 1, 1, 2, 2, 2]),
+                           (6, [0, 0, 0, 1, 1, 1, 1, 1, 1, 2, 2, 2, 2, 2, 2, 3])):
+            for A, ticks in enumerate(nearest):
+                self.check(A, d * ONE, ticks)
+
+    def test_next_to_a_half(self):
+        # 1/2, 3/2 and 5/2, a hair less and a hair more
+        for A in (1, 3, 5):
+            self.check(A, 2 * ONE + 1, A // 2)
+            self.check(A, 2 * ONE, A // 2 + 1)
+            self.check(A, 2 * ONE - 1, A // 2 + 1)
+
+    def test_odd_divisors(self):
+        # 10^12 leaves 1 by 3, 1 by 9 and 1 by 11
+        self.check(1, 3, 333333333333)
+        self.check(2, 3, 666666666667)
+        for A in range(10):
+            self.check(A, 9, 111111111111 * A + (A >= 5))
+        for A in range(12):
+            self.check(A, 11, 90909090909 * A + (A >= 6))
+
+    def test_half_at_full_size(self):
+        # S is odd, or has a half that can be left; A is chosen for what A * 10^12 leaves.
+        rng = random.Random(62)
+        parities = set()
+        for k in range(400):
+            odd = 2 * rng.randint(5 * 10**14, 10**17) + 1
+            S = odd if k % 2 else odd * 2**13
+            step = math.gcd(ONE, S)                 # A * 10^12 leaves multiples of this alone
+            inverse = pow(ONE // step, -1, S // step)
+            half = S // 2 // step * step            # the last of them up to a half
+            for left in (half - step, half, half + step):
+                A = left // step * inverse % (S // step) + S // step * rng.randrange(step)
+                quotient, rest = divmod(A * ONE, S)
+                self.assertEqual(rest, left)
+                self.check(A, S, quotient + (2 * left >= S))
+                if 2 * left == S:
+                    parities.add(quotient % 2)
+        self.assertEqual(parities, {0, 1})
+
+    def check_nearest(self, A, S):
+        """Half a tick too much may be, half a tick too little may not."""
+        above = 2 * (last_division(A, S) * S - A * ONE)     # twice the distance, times S
+        self.assertTrue(-S < above <= S, (A, S))
+
+    def drawn(self):
+        """(A, S): all small ones, with S whole ticks and not, and some of full size."""
+        for S in range(1, 40):
+            for A in range(2 * S + 1):
+                yield A, S
+                yield A, S * ONE
+        rng = random.Random(12)
+        for _ in range(2_000):
+            S = rng.randint(10**15, 2**62)
+            for A in (rng.randint(0, S), S - 1, S, 1):
+                yield A, S
+
+    def test_nearest(self):
+        for A, S in self.drawn():
+            self.check_nearest(A, S)
+
+    def test_limits(self):
+        for A, S in self.drawn():
+            down = A * ONE // S
+            self.assertIn(last_division(A, S), (down, down + 1), (A, S))
+            if A <= S:
+                self.assertLessEqual(last_division(A, S), ONE, (A, S))
+
+    def test_at_most_one(self):
+        S = 2 * 10**15
+        self.check(S, S, ONE)
+        self.check(S - 1, S, ONE)                   # less than half a tick below 1
+        self.check(S - 1_000, S, ONE)               # half a tick below 1
+        self.check(S - 1_001, S, ONE - 1)
+
+    def test_nearest_in_generated_models(self):
+        for name, file in models.valid_models(5, 45):
+            M, R = file[3], file[4]
+            divisions = last_divisions(file)
+            self.assertEqual(len(divisions), M * R, name)
+            for A, S in divisions:
+                self.assertLessEqual(A, S, name)
+                self.check_nearest(A, S)
+
+    def test_earlier_roundings_stay_down(self):
+        # State 2 is left for state 1 alone. U(0,1) is 10^12 over 3; U(1,1) is 10^12 + 333333333333 over 2, which is
+        # a half; w(1) is 48576 * 10^9, and its term leaves more than a half.
+        file = models.build(1, 2, 1, 100_000_000, 1, [3, 1], [[0], [48_576]])
+        self.assertEqual(48_576 * 666666666666, 32383999999967616)
+        A, S = last_divisions(file)[1]
+        self.assertEqual(A, 333333333333000 + 32383999999967)
+        self.assertEqual(S, 1_048_576 * 10**9)
+
+    def test_half_tick_models(self):
+        rng = random.Random(3)
+        sides = set()
+        for _ in range(60):
+            file = models.build(**models.half_tick(rng))
+            self.assertEqual(outcome(file, 512), ("level", 1))
+            A, S = last_divisions(file)[0]
+            quotient, left = divmod(A * ONE, S)
+            off = 2 * left - S
+            if abs(off) * 100 < S:
+                sides.add(("half", quotient % 2) if off == 0 else "less" if off < 0 else "more")
+        self.assertEqual(sides, {("half", 0), ("half", 1), "less", "more"})
+
+    def test_compared_models_tell_other_rules_apart(self):
+        # The kind that compare.py draws among its 300 models
+        files = [file for name, file in models.mixed_models(1, 300) if "half-tick" in name]
+        for rule, wrong in self.WRONG.items():
+            self.assertTrue(any(sheet_with(wrong, file) != sheet(file) for file in files), rule)
+
+
 class ExactAverage(unittest.TestCase):
 
     def test_average_of_B(self):
         model = calculator.read_model(B)
         self.assertEqual(calculator.average(model, 3, 1, 1), Fraction(23, 32))
         self.assertEqual(calculator.average(model, 3, 2, 1), Fraction(9, 32))
+
+    def test_B_is_printed_as_found_by_hand(self):
+        cells = [None] * 4
+        calculator.calculate(B, cells)
+        rows = calculator.averages(calculator.read_model(B), [3])[3]
+        self.assertEqual([Fraction(ticks, ONE) for ticks in cells], rows[0] + rows[1])
 
     def check_demand_3(self, name, file):
         """Each printed moment against the average up to N and beyond."""
@@ -280,11 +433,17 @@ class EditedDemand3(unittest.TestCase):
 
     def setUp(self):
         self.model = calculator.read_model(B)
-        self.printed = Fraction(718749999999, ONE)     # state 1, r = 1, N = 3
+        self.printed = Fraction(718750000000, ONE)     # state 1, r = 1, N = 3
         self.ticks = Fraction(3 * 3 + 2 * 1 + 3, ONE)
 
-    def test_no_ticks_at_all(self):
-        self.assertGreater(abs(self.printed - calculator.average(self.model, 3, 1, 1)), 0)
+    def test_no_ticks_but_half_of_one(self):
+        # The last division adds half a tick at most. B's moments are exact; with another rate the roundings before the
+        # last division reach the digits.
+        file = put(B, 21, 4, 10_000_000)
+        cells = [None] * 4
+        _, N = calculator.calculate(file, cells)
+        average = calculator.average(calculator.read_model(file), N, 1, 1)
+        self.assertGreater(abs(Fraction(cells[0], ONE) - average), Fraction(1, 2 * ONE))
 
     def test_no_tolerance_past_the_level(self):
         self.assertGreater(abs(self.printed - calculator.average(self.model, 10, 1, 1)), self.ticks)
