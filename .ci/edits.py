@@ -26,8 +26,8 @@ TEXT = """\
 
 Made by `.ci/edits.py`; the gate fails where this page is not what it would write.
 
-`crates/NAME/must-fail/LABEL.edit` changes a crate in one place or a few; `rt ci` applies each to a copy and passes only where the prover refuses it. Every one keeps
-the code's shape and is refused because a fact fails: the first refusal in `target/must-fail/NAME/LABEL/.log` is either a counterexample (numbers at which all that is
+`crates/NAME/must-fail/LABEL.edit` changes a crate in one place or a few; `rt ci` applies each to a copy and passes only where the prover refuses it. Every one
+is refused because a fact fails, and all but `moments/terms_to_the_nearest`, which adds a half before it divides, keep the code's shape: the first refusal in `target/must-fail/NAME/LABEL/.log` is either a counterexample (numbers at which all that is
 known holds and the goal fails) or two sides of a goal that differ, shown here where they are short. "Refused in" names the module or the function whose proof
 fails, and the fact: `returns` is what the function ensures, `F-requires` what F asks of its caller, `loop-holds` and `loop-again` an invariant at the start and after a round.
 
