@@ -26,13 +26,15 @@ TEXT = """\
 
 Made by `.ci/edits.py`; the gate fails where this page is not what it would write.
 
-`crates/NAME/must-fail/LABEL.edit` changes a crate in one place or a few; `rt ci` applies each to a copy and passes only where the prover refuses it. Every one
-is refused because a fact fails, and all but `moments/terms_to_the_nearest`, which adds a half before it divides, keep the code's shape: the first refusal in `target/must-fail/NAME/LABEL/.log` is either a counterexample (numbers at which all that is
+`crates/NAME/must-fail/LABEL.edit` changes a crate in one place or a few; `rt ci` applies each to a copy and passes only where the prover refuses it. Every one is
+refused because a fact fails: the first refusal in `target/must-fail/NAME/LABEL/.log` is either a counterexample (numbers at which all that is
 known holds and the goal fails) or two sides of a goal that differ, shown here where they are short. "Refused in" names the module or the function whose proof
 fails, and the fact: `returns` is what the function ensures, `F-requires` what F asks of its caller, `loop-holds` and `loop-again` an invariant at the start and after a round.
+Edits keep the code's shape, but for `moments/terms_to_the_nearest`, where a half has to be added.
 
-Two limits. A refused law is not a false law: `one_tick_less_at_the_level`, `half_the_vector_error` and `last_level_one_less` show that the proof does not reach the tighter bound.
+Three limits. A refused law is not a false law: `one_tick_less_at_the_level`, `half_the_vector_error` and `last_level_one_less` show that the proof does not reach the tighter bound.
 And the arithmetic tactic takes a product of two unknowns as one more unknown, so that a counterexample such as `P` = 0 with `P * ZN` = 1 need not be a model.
+Last, a right version in another form may be refused in the same words, where the proof is made for this form: that an edit is wrong is not what its refusal shows.
 
 | crate | edit | what it does | refused in | because |
 |---|---|---|---|---|
@@ -44,7 +46,7 @@ COUNTEREXAMPLE = re.compile(r"does not follow from what it read\. All of that ho
 DIFFER = re.compile(r"""the\ two\ types\ (?:(?:differ\ only|first\ differ)\ where\ one\ has|are)\s+`([^`]*)`\s+\(expected\)
                         (?:,\ (?:right\ after\s+`[^`]*`|at\ the\ start))?,?\s+and(?:\ the\ other\ has)?\s+`([^`]*)`\s+\(found\)""", re.X)
 # Names that Rattle makes for places in the code, what antt left open, and an operator without its numbers: these differ where the shape does.
-SHAPE = re.compile(r"\b(?:Lts|Tie|Reads|lts|tie|reads)\.|\?\w|^(?:[\w·]+\.)*_[^\s_]+_$")
+SHAPE = re.compile(r"\b(?:Lts|Tie|Reads|lts|tie|reads)\.|\?\w|^\(?(?:[\w·-]+\.)*_[^\s_]+_\)?$")
 NOT_COMPUTED = "what the two types compute to is not shown"
 
 

@@ -96,7 +96,7 @@ right-values = (refl, refl)
 pub wrong-values : (U chainB 1 1 1 ≢ 250000000000) × (U chainB 1 2 0 ≢ 666666666666)
 wrong-values = (omega (arith, right-values .0), omega (arith, right-values .1))
 
--- the last quotient's rounding: quarters and thirds to the nearest, a half going up. A term of A that ends in a half or more still goes down.
+-- the last quotient's rounding: quarters and thirds to the nearest, a half going up. A term of A goes down, however little it lacks.
 pub quarters : firsts 9 (λ a. nearest a 4) ≡ 0 ∷ 0 ∷ 1 ∷ 1 ∷ 1 ∷ 1 ∷ 2 ∷ 2 ∷ 2 ∷ []
 unfolding firsts nearest
 quarters = refl
@@ -105,7 +105,7 @@ pub thirds : firsts 7 (λ a. nearest a 3) ≡ 0 ∷ 0 ∷ 1 ∷ 1 ∷ 1 ∷ 2 �
 unfolding firsts nearest
 thirds = refl
 
-pub terms-down : firsts 4 (λ w. term w 500000000000) ≡ 0 ∷ 0 ∷ 1 ∷ 1 ∷ []
+pub terms-down : firsts 4 (λ w. term w 999999999999) ≡ 0 ∷ 0 ∷ 1 ∷ 2 ∷ []
 unfolding firsts term
 terms-down = refl
 

@@ -23,7 +23,7 @@ use Rattle.laws.specs.VectorError.{Near}
 use Rattle.laws.specs.WeightError.{divisor, z, exact-low, exact-high, distance, Held, held}
 use Rattle.laws.specs.TailBound.{tail, tail-within}
 
--- P is within one tick of A × 10^12 over S, and in [0, 1]: so is it rounded to the nearest, and so it would be rounded down
+-- P is within one tick of A × 10^12 over S, and in [0, 1]
 pub record LastQuotient (A S P : ℕ) : Type 0 where
   pub low : P * S ≤ A * ONE + S
   pub high : A * ONE ≤ P * S + S

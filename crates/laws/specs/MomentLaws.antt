@@ -12,7 +12,7 @@ use Rattle.definitions.specs.Weights.{mode, weight, weightSum}
 use Rattle.definitions.specs.Moment.{term, weighted, lastQuotient, weightedMean, moment, cellOf, cell, modelLevel, outcome}
 use Rattle.definitions.specs.Rules.{Answer, accepted, refused, rows, judgement}
 use Rattle.laws.specs.Rounding.{quotient-at-most, quotient-unique, quotient-below, remainder-below, remainder-unique}
-use Rattle.laws.specs.Nearest.{nearest-within, nearest-at-most, nearest-of-halves}
+use Rattle.laws.specs.Nearest.{nearest-within, nearest-at-most, nearest-by-halves}
 use Rattle.laws.specs.SumLaws.{sum-mono}
 use Rattle.laws.specs.RuleLaws.{accepted-is-no-refusal, other-value}
 use Rattle.laws.specs.ListLaws.{getD-over}
@@ -65,12 +65,12 @@ pub last-max : (A S : ℕ) → 0 < S → A ≤ S → lastQuotient A S ≤ ONE
 unfolding lastQuotient
 last-max A S pos h = nearest-at-most (A * ONE) ONE S pos (omega (arith, h))
 
--- from half ticks, rounded down: one more, halved
-pub last-of-halves : (A S : ℕ) → 0 < S → lastQuotient A S ≡ (A * (2 * ONE) / S + 1) / 2
+-- by half ticks rounded down: one half more, cut to whole ticks
+pub last-by-halves : (A S : ℕ) → 0 < S → lastQuotient A S ≡ (A * (2 * ONE) / S + 1) / 2
 unfolding lastQuotient
-last-of-halves A S pos =
+last-by-halves A S pos =
     let twice : 2 * (A * ONE) ≡ A * (2 * ONE) = omega arith in
-    nearest-of-halves (A * ONE) S pos ∙ ap (λ (n : ℕ). (n / S + 1) / 2) twice
+    nearest-by-halves (A * ONE) S pos ∙ ap (λ (n : ℕ). (n / S + 1) / 2) twice
 
 -- it is within one tick and in [0, 1]
 pub last-within : (X N : ℕ) (u : ℕ → ℕ) → mode X ≤ N → ((n : ℕ) → n ≤ N → u n ≤ ONE) → LastQuotient (weighted X u N) (weightSum X N) (weightedMean X u N)

@@ -1,19 +1,23 @@
--- Rounding to the nearest, a half going up, argued once for any divisor. Assumes nothing.
+-- Rounding to the nearest, a half going up, argued once for any divisor. `a / 0` is 0, so a law that needs a divisor says `0 < c`.
+-- Assumes nothing.
 use Prim.Native.Nat.{ℕ, _+_, _*_, _-_, _/_, _%_, _<_, _≤_}
 use native.Mathlib.Nat.{mul-le-mul-right}
-use native.Mathlib.Decide.{decLt}
+use native.Mathlib.Decide.{decLt, decLe}
 use native.Mathlib.Omega.{arith}
 use mathlib.Core.Logic.{_⊎_, inl, inr}
 use mathlib.Core.Path.{_≡_, ap}
+use lib.Dec.{leb}
+use borrow.Author.Tests.{le-leb, lt-leb}
+use Rattle.definitions.specs.Sums.{pick}
 use Rattle.definitions.specs.Moment.{nearest}
 use Rattle.laws.specs.Rounding.{quotient-low, quotient-high, quotient-at-least, quotient-below, quotient-unique, quotient-remainder, remainder-below}
 
--- n is within half of a over c, either way: twice the distance of n × c from a is at most c
+-- n is at most one half away from a / c, either way: twice the distance of n × c from a is at most c
 pub record WithinHalf (a c n : ℕ) : Type 0 where
   pub above : 2 * (n * c) ≤ 2 * a + c
   pub below : 2 * a ≤ 2 * (n * c) + c
 
--- the nearest is
+-- the nearest number is
 pub nearest-within : (a c : ℕ) → 0 < c → WithinHalf a c (nearest a c)
 unfolding nearest
 nearest-within a c pos =
@@ -22,39 +26,49 @@ nearest-within a c pos =
       below = omega (arith, quotient-high (2 * a + c) (2 * c) (omega arith));
     }
 
--- and no other number, but for a half: then the one below is too
-pub nearest-only : (a c n : ℕ) → WithinHalf a c n → (nearest a c ≡ n) ⊎ (2 * a ≡ 2 * (n * c) + c)
+-- and a number is the nearest that is at most one half above a / c, or less than one half below it
+pub nearest-is : (a c n : ℕ) → 2 * (n * c) ≤ 2 * a + c → 2 * a < 2 * (n * c) + c → nearest a c ≡ n
 unfolding nearest
+nearest-is a c n above below = quotient-unique (2 * a + c) (2 * c) n (2 * a + c - 2 * (n * c)) (omega arith) (omega arith)
+
+-- so no other number is at most one half away, but for a half, where the number below it is
+pub nearest-only : (a c n : ℕ) → WithinHalf a c n → (nearest a c ≡ n) ⊎ (2 * a ≡ 2 * (n * c) + c)
 nearest-only a c n h = from (decLt (2 * a) (2 * (n * c) + c))
   where
     from : Dec (2 * a < 2 * (n * c) + c) → (nearest a c ≡ n) ⊎ (2 * a ≡ 2 * (n * c) + c)
-    from (yes less) = inl (quotient-unique (2 * a + c) (2 * c) n (2 * a + c - 2 * (n * c)) (omega (arith, less)) (omega (arith, h .above)))
+    from (yes less) = inl (nearest-is a c n (h .above) less)
     from (no l) = inr (omega (arith, l, h .below))
 
 -- a half goes up
 pub half-up : (a c n : ℕ) → 0 < c → 2 * a ≡ 2 * (n * c) + c → nearest a c ≡ n + 1
-unfolding nearest
-half-up a c n pos half = quotient-unique (2 * a + c) (2 * c) (n + 1) 0 (omega arith) (omega arith)
+half-up a c n pos half = nearest-is a c (n + 1) (omega arith) (omega arith)
 
 -- what is at most k divisors rounds to at most k
 pub nearest-at-most : (a k c : ℕ) → 0 < c → a ≤ k * c → nearest a c ≤ k
 unfolding nearest
 nearest-at-most a k c pos h = omega (arith, quotient-below (2 * a + c) (k + 1) (2 * c) (omega arith))
 
--- at least the quotient rounded down, and at most one more
-pub nearest-from-down : (a c : ℕ) → 0 < c → a / c ≤ nearest a c
+-- at least the quotient rounded down
+pub nearest-at-least-down : (a c : ℕ) → 0 < c → a / c ≤ nearest a c
 unfolding nearest
-nearest-from-down a c pos = quotient-at-least (2 * a + c) (a / c) (2 * c) (omega arith) (omega (arith, quotient-low a c))
+nearest-at-least-down a c pos = quotient-at-least (2 * a + c) (a / c) (2 * c) (omega arith) (omega (arith, quotient-low a c))
 
-pub nearest-one-more : (a c : ℕ) → 0 < c → nearest a c ≤ a / c + 1
-nearest-one-more a c pos = nearest-at-most a (a / c + 1) c pos (omega (arith, quotient-high a c pos))
+-- and at most one more
+pub nearest-at-most-one-more : (a c : ℕ) → 0 < c → nearest a c ≤ a / c + 1
+nearest-at-most-one-more a c pos = nearest-at-most a (a / c + 1) c pos (omega (arith, quotient-high a c pos))
 
--- from the number of halves, rounded down: one more, halved
-pub nearest-of-halves : (a c : ℕ) → 0 < c → nearest a c ≡ (2 * a / c + 1) / 2
-unfolding nearest
-nearest-of-halves a c pos =
+-- by the remainder: one more than the quotient rounded down where twice the remainder reaches the divisor
+pub nearest-by-remainder : (a c : ℕ) → 0 < c → nearest a c ≡ a / c + pick (leb c (2 * (a % c))) 1 0
+nearest-by-remainder a c pos = from (decLe c (2 * (a % c)))
+  where
+    from : Dec (c ≤ 2 * (a % c)) → nearest a c ≡ a / c + pick (leb c (2 * (a % c))) 1 0
+    from (yes l) = rw (le-leb c (2 * (a % c)) l) (nearest-is a c (a / c + 1) (omega (arith, quotient-remainder a c)) (omega (arith, quotient-remainder a c, remainder-below a c pos)))
+    from (no l) = rw (lt-leb c (2 * (a % c)) (omega (arith, l))) (nearest-is a c (a / c + 0) (omega (arith, quotient-remainder a c)) (omega (arith, l, quotient-remainder a c)))
+
+-- by halves rounded down: one half more, cut to whole ones
+pub nearest-by-halves : (a c : ℕ) → 0 < c → nearest a c ≡ (2 * a / c + 1) / 2
+nearest-by-halves a c pos =
     let halves : ℕ = 2 * a / c in
-    let odd : ℕ = (halves + 1) % 2 in
-    quotient-unique (2 * a + c) (2 * c) ((halves + 1) / 2) (odd * c + 2 * a % c)
-    (omega (arith, mul-le-mul-right c (remainder-below (halves + 1) 2 (omega arith)), remainder-below (2 * a) c pos))
-    (omega (arith, ap (λ (n : ℕ). n * c) (quotient-remainder (halves + 1) 2), quotient-remainder (2 * a) c))
+    let parts = ap (λ (n : ℕ). n * c) (quotient-remainder (halves + 1) 2) in
+    let odd = mul-le-mul-right c (remainder-below (halves + 1) 2 (omega arith)) in
+    nearest-is a c ((halves + 1) / 2) (omega (arith, parts, quotient-remainder (2 * a) c)) (omega (arith, parts, odd, quotient-remainder (2 * a) c, remainder-below (2 * a) c pos))

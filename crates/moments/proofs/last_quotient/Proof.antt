@@ -1,11 +1,11 @@
 -- The last quotient from its half ticks.
-use Prim.Native.Nat.{_*_, _≤_}
+use Prim.Native.Nat.{_*_}
 use native.Mathlib.Nat.{mul-le-mul-right}
 use native.Mathlib.Omega.{arith}
 use borrow.Author.Needs.{needs}
 use Rattle.definitions.specs.Vectors.{ONE}
 use Rattle.laws.specs.Rounding.{quotient-at-most}
-use Rattle.laws.specs.MomentLaws.{last-of-halves}
+use Rattle.laws.specs.MomentLaws.{last-by-halves}
 use Rattle.muldiv.specs.QuotientLaws.{scalable-by}
 use Rattle.moments.proofs.last_quotient.Statement.{statement}
 use Rattle.moments.proofs.last_quotient.Tie as tie
@@ -25,7 +25,7 @@ add-result c =
 returns : tie.Need-returns
 returns c =
     let start = c .before in
-    omega (arith, c .scaled .ensures, last-of-halves (start .args .sum) (start .args .total) (start .pre .1))
+    omega (arith, c .scaled .ensures, last-by-halves (start .args .sum) (start .args .total) (start .pre .1))
 
 pub last-quotient-spec : {M : Type 1} → statement M
 last-quotient-spec = tie.close (tie.spec mul-scaled scaled-requires add-result returns)

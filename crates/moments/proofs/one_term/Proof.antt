@@ -23,7 +23,7 @@ unfolding term
 returns-2 c =
     let w = c .before .before .args .w in
     let u = c .before .before .args .u in
-    (c .scaled .ensures, omega (arith, c .scaled .ensures, term-max w u (c .before .before .pre .1)))
+    (omega (arith, c .scaled .ensures), omega (arith, c .scaled .ensures, term-max w u (c .before .before .pre .1)))
 
 pub one-term-spec : {M : Type 1} → statement M
 one-term-spec = tie.close (tie.spec mul-result returns scaled-requires returns-2)
