@@ -11,6 +11,7 @@ import signal
 import struct
 import sys
 from collections import namedtuple
+from decimal import Context, Decimal
 from fractions import Fraction
 
 # time_limit: None for a calculator that is called as a module; where the mistake is in reading
@@ -52,7 +53,9 @@ SUM_S = "        S += w[n]\n"
 LEVEL_FOUND = "            return n\n"
 TERM = "w[n] * U[n][r][i] // ONE"
 A = f"sum({TERM} for n in range(N + 1))"
-LAST = "A * ONE // sum(w[:N + 1])"
+LAST = "quotient, left = divmod(A * ONE, S)\n    return quotient + 1 if 2 * left >= S else quotient"
+FROM_HALF = "2 * left >= S"
+OVER_S = "last_division(A, sum(w[:N + 1]))"
 CELL = "cells[(i - 1) * model.R + (r - 1)] = "
 FIGURE = "{ticks // ONE}.{ticks % ONE:012d}"
 LINE = "{i} {r} " + FIGURE + '"'
@@ -106,15 +109,23 @@ def extended(a, b, c):
 
 
 def significant64(a):
-    """A fraction above 0 rounded to 64 significant bits, a half to the even one."""
+    """A fraction rounded to 64 significant bits, a half to the even one."""
+    if not a:
+        return a
     places = 64 - a.numerator.bit_length() + a.denominator.bit_length()
     places -= a * Fraction(2)**places >= 2**64
     return round(a * Fraction(2)**places) / Fraction(2)**places
 
 
-def share_extended(a, b, c):
-    """a / c with 64 significant bits, then times b with as many, cut to a whole number."""
-    return int(significant64(significant64(Fraction(a, c)) * b)) if a else 0
+def nearest_to(a):
+    """A fraction rounded to the nearest whole number, a half going up."""
+    return nearest(a.numerator, a.denominator)
+
+
+def decimal28(a, b, rounding):
+    """a / b in ticks: 28 significant decimal digits, then rounded to twelve decimals."""
+    share = Context(prec=28).divide(Decimal(a), Decimal(b))
+    return int(share.quantize(Decimal("1e-12"), rounding).scaleb(12))
 
 
 def digits15(a):
@@ -244,8 +255,8 @@ def read_pieces(stream, size, most, enough=lambda file: False):
     return file
 
 
-HELPERS = (math.comb, up, nearest, even, binary64, binary32, extended, share_extended, digits15, signed, signed_bytes,
-           by_columns, overwritten, unless_still, poisson, e_to_q, relation_10, exponent, as_binary64, crash, row_holds,
+HELPERS = (math.comb, up, nearest, even, binary64, binary32, extended, significant64, nearest_to, decimal28, digits15,
+           signed, signed_bytes, by_columns, overwritten, unless_still, poisson, e_to_q, relation_10, exponent, as_binary64, crash, row_holds,
            row_by_row, state_by_state, read_pieces)
 
 
@@ -575,41 +586,96 @@ MOMENTS = [
     wrong("terms-together", "A divided by 10^12 after it is summed",
           (A, "sum(w[n] * U[n][r][i] for n in range(N + 1)) // ONE")),
     wrong("terms-not-divided", "A not divided by 10^12 at all", (A, "sum(w[n] * U[n][r][i] for n in range(N + 1))"),
-          (LAST, "A // sum(w[:N + 1])")),
+          (OVER_S, "last_division(A, ONE * sum(w[:N + 1]))")),
     wrong("A-from-1", "A summed from n = 1", (A, A.replace("range(N + 1)", "range(1, N + 1)"))),
     wrong("A-below-N", "A summed to N - 1", (A, A.replace("range(N + 1)", "range(N)"))),
-    wrong("S-below-N", "S(N-1) in place of S(N)", (LAST, "A * ONE // sum(w[:N])")),
+    wrong("S-below-N", "S(N-1) in place of S(N)", (OVER_S, "last_division(A, sum(w[:N]))")),
     wrong("S-of-all-weights", "A divided by the sum of all weights",
-          ("w = weights(model.X, N)", "w = weights(model.X, LEVEL_LIMIT)"), (LAST, "A * ONE // sum(w)")),
+          ("w = weights(model.X, N)", "w = weights(model.X, LEVEL_LIMIT)"), (OVER_S, "last_division(A, sum(w))")),
     wrong("S-is-e-to-the-q", "A divided by e^q", ("moment(w, U, N, i - 1, r)\n",
           "moment(w, U, N, i - 1, r) * sum(w) // e_to_q(model.X)\n")),
     wrong("A-of-n-0", "A with U(0,r) for every n", (TERM, "w[n] * U[0][r][i] // ONE")),
-    *rounded("last-division", "the last division", LAST, "A * ONE, sum(w[:N + 1])"),
-    wrong("last-division-even", "the last division rounded to the nearest, a half to the even one",
-          (LAST, "even(A * ONE, sum(w[:N + 1]))")),
-    wrong("last-division-binary64", "the last division in binary64", (LAST, "binary64(A, ONE, sum(w[:N + 1]))")),
-    wrong("last-division-share", "A / S(N) in binary64, times 10^12", (LAST, "int(A / sum(w[:N + 1]) * ONE)")),
-    wrong("last-division-S-binary64", "S(N) in binary64 in the last division",
-          (LAST, "A * ONE // int(float(sum(w[:N + 1])))")),
-    wrong("last-division-extended", "the last division with 64 significant bits",
-          (LAST, "extended(A, ONE, sum(w[:N + 1]))")),
-    wrong("last-division-share-extended", "A / S(N) with 64 significant bits, times 10^12",
-          (LAST, "share_extended(A, ONE, sum(w[:N + 1]))")),
-    wrong("last-division-64-bit", "A 10^12 in 64 bits", (LAST, "A * ONE % 2**64 // sum(w[:N + 1])")),
-    wrong("last-division-15-digits", "A with 15 digits", (LAST, "digits15(A) * ONE // sum(w[:N + 1])")),
-    wrong("last-division-first-divided", "S(N) divided by 1,000 before the last division",
-          (LAST, "A * BILLION // (sum(w[:N + 1]) // 1000)")),
     wrong("all-binary64", "vectors and sums in binary64, nothing cut before the last division",
           (FIRST, FIRST.replace("f * u // model.F", "f / model.F * u")),
           (MEAN, "sum(a / model.E * b for a, b in zip(row, vector))"),
           (W, W.replace("f * u // model.F", "f / model.F * u")), (MIX, MIX.replace("//", "/")),
-          (TERM, "w[n] * U[n][r][i] / ONE"), (LAST, "int(A * ONE / sum(w[:N + 1]))")),
-    wrong("exact-fractions", "the exact average up to N, cut once",
-          ("moment(w, U, N, i - 1, r)\n", "int(average(model, N, i, r) * ONE)\n")),
+          (TERM, "w[n] * U[n][r][i] / ONE"), (LAST, "return int(A * ONE / S + 0.5)")),
+    wrong("exact-fractions", "the exact average up to N, rounded once",
+          ("moment(w, U, N, i - 1, r)\n", "nearest(*(average(model, N, i, r) * ONE).as_integer_ratio())\n")),
     wrong("variance", "the variance in place of the second moment", ("ticks = cells[(i - 1) * R + (r - 1)]",
           "ticks = cells[(i - 1) * R + (r - 1)] - (cells[(i - 1) * R]**2 // ONE if r == 2 else 0)")),
     wrong("cells-r-by-r", "the moments in their cells r by r", (CELL, "cells[(r - 1) * model.M + (i - 1)] = ")),
     wrong("cells-eight-each", "eight cells for every state", (CELL, "cells[(i - 1) * 8 + (r - 1)] = ")),
+]
+
+
+# --- The last division ----------------------------------------------------------------------------------
+
+def last(name, what, new):
+    """The last division worked out in another way."""
+    return wrong(f"last-division-{name}", f"the last division {what}", (LAST, f"return {new}"))
+
+
+def half_test(name, what, new):
+    """Another test for a remainder of half the divisor or more."""
+    return wrong(f"half-test-{name}", f"the last division goes up where {what}", (FROM_HALF, new))
+
+
+def carry(name, what, raised, *changes):
+    """Another number in place of the quotient plus 1."""
+    return wrong(f"carry-{name}", what, (LAST, LAST.replace("quotient + 1", raised)), *changes)
+
+
+def rounded_twice():
+    """More than twelve decimals first, rounded or cut, then twelve."""
+    for more in (1, 3, 6):
+        places = f"{12 + more} decimals"
+        yield last(f"rounded-at-{12 + more}", f"rounded to {places}, then to twelve",
+                   f"nearest(nearest(A * ONE * 10**{more}, S), 10**{more})")
+        yield last(f"cut-at-{12 + more}-even", f"cut to {places}, then rounded, a half to the even one",
+                   f"even(A * ONE * 10**{more} // S, 10**{more})")
+
+
+LAST_DIVISION = [
+    last("down", "rounded down", "A * ONE // S"),
+    last("up", "rounded up", "up(A * ONE, S)"),
+    last("half-down", "rounded to the nearest, a half going down", "up(2 * A * ONE - S, 2 * S)"),
+    last("even", "rounded to the nearest, a half to the even one", "even(A * ONE, S)"),
+    last("digit-above-5", "going up where the 13th decimal is above 5", "(A * ONE * 10 // S + 4) // 10"),
+    *rounded_twice(),
+    last("decimal", "with 28 decimal digits, a half going up", "decimal28(A, S, 'ROUND_HALF_UP')"),
+    last("decimal-even", "with 28 decimal digits, a half to the even one", "decimal28(A, S, 'ROUND_HALF_EVEN')"),
+    last("binary64", "in binary64", "int(float(A) * ONE / float(S) + 0.5)"),
+    last("binary64-once", "as the nearest binary64, rounded, a half to the even one", "round(A * ONE / S)"),
+    last("share", "as A / S(N) in binary64, times 10^12", "int(A / S * ONE + 0.5)"),
+    last("share-printed", "as A / S(N) in binary64, printed with twelve decimals",
+         'int(f"{A / S:.12f}".replace(".", ""))'),
+    last("extended", "with 64 significant bits", "nearest_to(significant64(significant64(Fraction(A * ONE)) / S))"),
+    last("share-extended", "as A / S(N) with 64 significant bits, times 10^12",
+         "nearest_to(significant64(significant64(Fraction(A, S)) * ONE))"),
+    last("share-extended-printed", "as A / S(N) with 64 significant bits, printed with twelve decimals",
+         "round(significant64(Fraction(A, S)) * ONE)"),
+    last("A-binary64", "with A in binary64", "nearest(int(float(A)) * ONE, S)"),
+    last("S-binary64", "with S(N) in binary64", "nearest(A * ONE, int(float(S)))"),
+    last("64-bit", "with A 10^12 in 64 bits", "nearest(A * ONE % 2**64, S)"),
+    last("doubled-64-bit", "with 2 A 10^12 + S(N) in 64 bits", "(2 * A * ONE + S) % 2**64 // (2 * S)"),
+    last("15-digits", "with 15 digits of A", "nearest(digits15(A) * ONE, S)"),
+    last("first-divided", "with S(N) divided by 1,000 before it", "nearest(A * BILLION, S // 1000)"),
+    last("S-halved", "by half of S(N), down, and the quotient halved", "(A * ONE // (S // 2) + 1) // 2"),
+    half_test("S-halved", "the remainder is half of S(N), down, or more", "left >= S // 2"),
+    half_test("share", "the remainder over S(N) in binary64 is 0.5 or more", "left / S >= 0.5"),
+    half_test("binary64", "twice the remainder is S(N) or more, both in binary64", "2.0 * left >= float(S)"),
+    half_test("quarter", "the remainder is a quarter of S(N) or more", "4 * left >= S"),
+    wrong("last-division-first-moments", "the last division rounded to the nearest for r = 1 alone",
+          (OVER_S, OVER_S + " if r == 1 else A * ONE // sum(w[:N + 1])")),
+    carry("lost", "rounding up, a last digit 9 becomes 0 and nothing is carried",
+          "quotient - quotient % 10 + (quotient + 1) % 10"),
+    carry("one-missed", "a moment that rounds to 1 left at 0.999999999999", "min(quotient + 1, ONE - 1)"),
+    carry("one-lost", "a moment that rounds to 1 printed as 0.000000000000", "(quotient + 1) % ONE"),
+    carry("one-in-13-digits", "a moment that rounds to 1 printed as 0.1000000000000",
+          "(quotient + 1 if quotient + 1 < ONE else -1)",
+          (LINE, LINE.replace(FIGURE, f"{{f'{FIGURE}' if ticks >= 0 else '0.1000000000000'}}"))),
+    carry("tick-missed", "a moment below a tick left at 0", "(quotient + 1 if quotient else 0)"),
 ]
 
 
@@ -723,7 +789,7 @@ EQUIVALENT = [
     border(13, "left-out", "not tested: 512 cells are enough for 64 states and 8 moments", "False"),
 ]
 
-GROUPS = (MODEL_FILE, REFUSAL_TABLE, CHAIN, VECTORS, WEIGHT_LIST, LEVEL, MOMENTS, SHEET, PROGRAMS)
+GROUPS = (MODEL_FILE, REFUSAL_TABLE, CHAIN, VECTORS, WEIGHT_LIST, LEVEL, MOMENTS, LAST_DIVISION, SHEET, PROGRAMS)
 TABLE = {}
 for _entry in (entry for group in GROUPS for entry in group):
     if _entry.name in TABLE:
