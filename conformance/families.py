@@ -1,19 +1,23 @@
 """Families of small accepted models for search.py, in which a rounding or a border may decide the sheet.
 
-A family is a function of a try's number and of the search's options (seed, within, least); it gives rows of
-edges.py with a model, for the level's families also with a name and with what holds of t. The same number
-always gives the same rows.
+A family is a function of a try's number and of the search's options (seed, within, least, off, quotient, wrong_weights);
+it gives rows of edges.py with a model, for the level's families also with a name and with what holds of t. The same
+number always gives the same rows.
 """
 
+import math
 import random
 
 import calculator
 import models
-from calculator import BILLION, MILLION
+from calculator import BILLION, MILLION, ONE
 from edges import Edge, Level
 from models import MAX_ROW_SUM, MAX_TOLERANCE, MAX_X
 
 BLOCK = 1_000          # X in a block
+AIMS = 300             # draws of rates and rewards in a try of an aimed family
+NEAR_FORETOLD = 50     # ticks by which a foretold inflow may be off
+FIRST_REWARDS = 300    # of the first absorbing state, tried for an inflow
 FORETOLD = 2e-7        # how far a foretold tolerance may be off, by the rounding of the weights
 
 
@@ -143,5 +147,125 @@ def two_states(k, options):
     return (pairs if k % 2 else round_numbers)(k, options)
 
 
+# --- Aimed at a half: five states, the last division of the first figure as near to a half as can be ------------
+
+def half_sums(S):
+    """{off: A, step}: the sums A, A + step, ... below S for which twice what A 10^12 leaves by S is S + off, for
+    the off nearest to 0: 0 itself, or one on each side."""
+    common = math.gcd(2 * ONE, 2 * S)
+    step = 2 * S // common
+    inverse = pow(2 * ONE // common, -1, step)
+    short = S % common
+    return {off: ((S + off) // common * inverse % step, step) for off in ((-short, common - short) if short else (0,))}
+
+
+def sum_of_first(w, E, stay, inflow, u):
+    """A of state 1 and r = 1, where it stays with rate `stay` and the states it leaves for are absorbing; `inflow`
+    is the sum of their rates times their ticks, u its own ticks."""
+    x = u
+    A = w[0] * u // ONE
+    for n in range(1, len(w)):
+        x = (n * ((stay * x + inflow) // E) + u) // (n + 1)
+        A += w[n] * x // ONE
+    return A
+
+
+def least_inflow(A, sum_for, E, most):
+    """The least inflow for which the sum of state 1 is A or more; `most` or more where none is found. The sum grows
+    evenly, so that only inflows near a foretold one are tried."""
+    none, all_of_it = sum_for(0), sum_for(most)
+    if not none < A <= all_of_it:
+        return most
+    low = max(0, most * (A - none) // (all_of_it - none) - NEAR_FORETOLD * E)
+    high = low + 2 * NEAR_FORETOLD * E
+    while high - low > 1:
+        middle = (low + high) // 2
+        low, high = (low, middle) if sum_for(middle) >= A else (middle, high)
+    return high
+
+
+def rewards_for(low, high, rates, F):
+    """Rewards of three absorbing states, each rate much below the one before, for an inflow from low to high; or None."""
+    most = min(F, low * F // (rates[0] * ONE))
+    for first in range(most, max(most - FIRST_REWARDS, -1), -1):
+        rest = low - rates[0] * (first * ONE // F)
+        second = min(F, rest * F // (rates[1] * ONE))
+        rest -= rates[1] * (second * ONE // F)
+        third = -(-rest * F // (rates[2] * ONE))
+        if third <= F and rest <= rates[2] * (third * ONE // F) <= rest + high - low:
+            return [first, second, third]
+    return None
+
+
+def aim(rng, A, w, E):
+    """Rewards and rates for which the sum of state 1 is A, or None."""
+    F = rng.randint(500_000, 1_000_000)
+    own = min(F, int(F * A / sum(w) * rng.uniform(0.5, 1.5)))
+    rates = [rng.randint(E // 4, E // 2), 1 + E * rng.randint(1, 9) // 50_000, 1 + E * rng.randint(0, 9) // 5_000_000]
+    most = sum(rates) * ONE
+
+    def sum_for(inflow):
+        return sum_of_first(w, E, E - sum(rates), inflow, own * ONE // F)
+
+    low = least_inflow(A, sum_for, E, most)
+    rewards = sum_for(low) == A and rewards_for(low, least_inflow(A + 1, sum_for, E, most) - 1, rates, F)
+    return ([own, *rewards, F], [rates + [0], [0] * 4, [0] * 4, [0] * 4, [E, 0, 0, 0]]) if rewards else None
+
+
+def aims(w, options, rng):
+    """Sums to aim at: those nearest to a half, or those on both sides of the half behind a given quotient."""
+    S = sum(w)
+    if options.quotient is not None:
+        border = -(-(2 * options.quotient + 1) * S // (2 * ONE))
+        return [border - 1, border]
+    return [rng.randrange(first, S, step) for off, (first, step) in half_sums(S).items() if options.off in (None, off)]
+
+
+def aimed_at(rng, options, least, most):
+    """For one X between two limits and each sum to aim at: the first draw that meets it."""
+    X = models.log_uniform(rng, least, most)
+    T = -(-X // MAX_ROW_SUM) + rng.randint(0, 3)
+    E = X // T
+    epsilon = rng.choice([1, 1_000, 1_000_000, 100_000_000])
+    N = calculator.level(E * T, epsilon)
+    w = calculator.weights(E * T, N)
+    if options.wrong_weights and options.wrong_weights(E * T, N) == w:
+        return
+    for A in aims(w, options, rng):
+        found = next(filter(None, (aim(rng, A, w, E) for _ in range(AIMS))), None)
+        if found:
+            yield Edge("", "", [], 1, epsilon, T, *found)
+
+
+def aimed(k, options):
+    """q from 0.2 to 13."""
+    return aimed_at(random.Random(f"aimed {options.seed} {k}"), options, 200_000, 13_000_000)
+
+
+def aimed_long(k, options):
+    """q from 13 on: S(N) is above 2^53."""
+    return aimed_at(random.Random(f"aimed long {options.seed} {k}"), options, 13_000_000, 250_000_000)
+
+
+# --- Halves by round numbers ------------------------------------------------------------------------------------
+
+def power_of_two(k, options):
+    """E T = 48,576 and a wide tolerance: N is 1 and S(N) is 10^9 2^20."""
+    rng = random.Random(f"power of two {options.seed} {k}")
+    T = rng.choice([T for T in range(1, 12) if 48_576 % T == 0])
+    F = rng.randint(1, 1_000)
+    rates = [[48_576 // T], [rng.randint(0, 48_576 // T)]]
+    yield Edge("", "", [], 8, 100_000_000, T, rng.sample([F, rng.randint(0, F)], 2), rates)
+
+
+def few_ticks(k, options):
+    """A first state with reward 0 or F and, seldom reached from it, one whose reward is next to its own."""
+    rng = random.Random(f"few ticks {options.seed} {k}")
+    E, F = 1_000 * rng.randint(1, 50), 1_000 * rng.randint(900, 1_000)
+    own, other = rng.choice([(0, rng.randint(1, 4)), (F, F - rng.randint(1, 4))])
+    yield Edge("", "", [], rng.randint(1, 3), 100_000_000, 1, [own, other, F], [[rng.randint(1, 4), 0], [0, 0], [E, 0]])
+
+
 FAMILIES = {"level-edges": level_edges, "level-blocks": level_blocks, "level-crossings": level_crossings,
-            "pairs": pairs, "long-pairs": long_pairs, "round-numbers": round_numbers, "two-states": two_states}
+            "pairs": pairs, "long-pairs": long_pairs, "round-numbers": round_numbers, "two-states": two_states,
+            "aimed": aimed, "aimed-long": aimed_long, "power-of-two": power_of_two, "few-ticks": few_ticks}

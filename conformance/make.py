@@ -203,10 +203,11 @@ def jump_counts():
 
 
 def below_whole():
-    """X one below a whole q, which is that q in binary32: taking the whole one for m changes a printed digit."""
-    for X, reward in ((16_999_999, 118), (63_999_999, 585), (255_999_999, 44)):
+    """X one below a whole q, which is that q in binary32: with the least reward for which taking the whole one for m
+    changes a printed digit."""
+    for X, reward in ((16_999_999, 575), (63_999_999, 93), (255_999_999, 2_830)):
         E, T = models.factors(X)
-        yield f"q-millionths-{X:09d}", models.build(1, 2, 8, 1_000, T, [reward, 1_000], [[E], [E // 3]])
+        yield f"q-millionths-{X:09d}", models.build(1, 2, 8, 1_000, T, [reward, 10_000], [[E], [E // 3]])
 
 
 def tolerances():

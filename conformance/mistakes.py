@@ -256,8 +256,8 @@ def read_pieces(stream, size, most, enough=lambda file: False):
 
 
 HELPERS = (math.comb, up, nearest, even, binary64, binary32, extended, significant64, nearest_to, decimal28, digits15,
-           signed, signed_bytes, by_columns, overwritten, unless_still, poisson, e_to_q, relation_10, exponent, as_binary64, crash, row_holds,
-           row_by_row, state_by_state, read_pieces)
+           signed, signed_bytes, by_columns, overwritten, unless_still, poisson, e_to_q, relation_10, exponent,
+           as_binary64, crash, row_holds, row_by_row, state_by_state, read_pieces)
 
 
 # --- The model file --------------------------------------------------------------------------------
@@ -587,6 +587,7 @@ MOMENTS = [
           (A, "sum(w[n] * U[n][r][i] for n in range(N + 1)) // ONE")),
     wrong("terms-not-divided", "A not divided by 10^12 at all", (A, "sum(w[n] * U[n][r][i] for n in range(N + 1))"),
           (OVER_S, "last_division(A, ONE * sum(w[:N + 1]))")),
+    wrong("A-binary64", "A summed in binary64", (A, A.replace(TERM, f"float({TERM})").join(("int(", ")")))),
     wrong("A-from-1", "A summed from n = 1", (A, A.replace("range(N + 1)", "range(1, N + 1)"))),
     wrong("A-below-N", "A summed to N - 1", (A, A.replace("range(N + 1)", "range(N)"))),
     wrong("S-below-N", "S(N-1) in place of S(N)", (OVER_S, "last_division(A, sum(w[:N]))")),
@@ -641,6 +642,7 @@ LAST_DIVISION = [
     last("up", "rounded up", "up(A * ONE, S)"),
     last("half-down", "rounded to the nearest, a half going down", "up(2 * A * ONE - S, 2 * S)"),
     last("even", "rounded to the nearest, a half to the even one", "even(A * ONE, S)"),
+    last("odd", "rounded to the nearest, a half to the odd one", "even(A * ONE + S, S) - 1"),
     last("digit-above-5", "going up where the 13th decimal is above 5", "(A * ONE * 10 // S + 4) // 10"),
     *rounded_twice(),
     last("decimal", "with 28 decimal digits, a half going up", "decimal28(A, S, 'ROUND_HALF_UP')"),
@@ -665,6 +667,8 @@ LAST_DIVISION = [
     half_test("S-halved", "the remainder is half of S(N), down, or more", "left >= S // 2"),
     half_test("share", "the remainder over S(N) in binary64 is 0.5 or more", "left / S >= 0.5"),
     half_test("binary64", "twice the remainder is S(N) or more, both in binary64", "2.0 * left >= float(S)"),
+    half_test("remainder-binary64", "the remainder worked out in binary64 is half of S(N) or more",
+              "2 * (float(A) * ONE - float(quotient) * S) >= S"),
     half_test("quarter", "the remainder is a quarter of S(N) or more", "4 * left >= S"),
     wrong("last-division-first-moments", "the last division rounded to the nearest for r = 1 alone",
           (OVER_S, OVER_S + " if r == 1 else A * ONE // sum(w[:N + 1])")),
@@ -676,6 +680,9 @@ LAST_DIVISION = [
           "(quotient + 1 if quotient + 1 < ONE else -1)",
           (LINE, LINE.replace(FIGURE, f"{{f'{FIGURE}' if ticks >= 0 else '0.1000000000000'}}"))),
     carry("tick-missed", "a moment below a tick left at 0", "(quotient + 1 if quotient else 0)"),
+    wrong("all-nearest", "every division rounded to the nearest",
+          *(change for entry in (*VECTORS, *WEIGHT_LIST, *LEVEL, *MOMENTS)
+            if entry.name.endswith("-nearest") and entry.name != "m-nearest" for change in entry.changes)),
 ]
 
 
@@ -779,6 +786,18 @@ EQUIVALENT = [
           (MIX, "int((n * v + r * w) / (n + r))")),
     wrong("row-mean-j-falling", "V summed from the last j: a sum of whole numbers has no order",
           (MEAN, "sum(map(mul, row[::-1], vector[::-1])) // model.E")),
+    last("doubled", "as 2 A 10^12 + S(N) over 2 S(N), down: that is to the nearest, a half going up",
+         "(2 * A * ONE + S) // (2 * S)"),
+    last("half-added", "down after half of S(N), down, is added: no remainder is half of an odd S(N)",
+         "(A * ONE + S // 2) // S"),
+    last("in-halves", "as 2 A 10^12 over S(N), down, plus 1, halved: the halves of a tick are counted",
+         "(2 * A * ONE // S + 1) // 2"),
+    last("cut-at-13", "cut to 13 decimals, then rounded, a half going up: from a half on the 13th decimal is 5 or more",
+         "nearest(A * ONE * 10 // S, 10)"),
+    last("at-most-one", "never above 10^12: A is at most S(N), as no number of a vector is above 10^12",
+         "min(nearest(A * ONE, S), ONE)"),
+    half_test("difference", "S(N) less the remainder is not above the remainder: twice the remainder is S(N) or more",
+              "S - left <= left"),
     wrong("figure-rounded-binary64", "figures printed from binary64 with twelve digits: it holds fifteen",
           (LINE, LINE.replace(FIGURE, "{ticks / ONE:.12f}"))),
     wrong("length-signed", "the length as 16 bits with a sign: 32,768 and more never fits the bytes read",

@@ -67,6 +67,7 @@ def module(entry):
     return result
 
 
+@functools.lru_cache(maxsize=None)
 def calculator(name):
     """The named wrong calculator as a module."""
     return module(TABLE[name])

@@ -31,6 +31,7 @@ from edges import Edge, Half  # noqa: E402
 from families import FAMILIES, level_blocks, level_crossings, level_edges, miss_at, two_states  # noqa: E402
 
 NEAR_HALF = 10**5      # "a little" off the half is at most this part of the divisor
+NEAR_BORDER = 2 * ONE  # where a quotient is given: another A, one less or more, is on the other side of the half
 
 # tries(K, options) gives rows without a search; judge(row, options) what holds of a row, or nothing.
 Search = namedtuple("Search", "what tries judge")
@@ -49,7 +50,7 @@ def built(row):
 
 
 def last_divisions(row):
-    """(state, r, remainder, divisor) of the last division of every moment."""
+    """What the last division of every moment gives and leaves, and its divisor."""
     model = calculator.read_model(built(row))
     N = calculator.level(model.X, model.epsilon)
     w = calculator.weights(model.X, N)
@@ -58,17 +59,19 @@ def last_divisions(row):
     for i in range(model.M):
         for r in range(1, model.R + 1):
             A = sum(w[n] * U[n][r][i] // ONE for n in range(N + 1))
-            yield i + 1, r, A * ONE % S, S
+            yield Half(i + 1, r, A * ONE // S, 2 * (A * ONE % S) - S), S
 
 
 def half_ticks(row, options):
     """The moments whose last division leaves half its divisor, or a little less or more."""
-    result = []
-    for state, r, rest, S in last_divisions(row):
-        off = 2 * rest - S
-        if abs(off) * NEAR_HALF <= S:
-            result.append(Half(state, r, (off > 0) - (off < 0)))
-    return result
+    def near(half, S):
+        if options.quotient not in (None, half.quotient):
+            return False
+        if options.off is not None:
+            return half.off == options.off
+        return abs(half.off) * NEAR_HALF <= S if options.quotient is None else abs(half.off) <= NEAR_BORDER
+
+    return [half for half, S in last_divisions(row) if near(half, S)]
 
 
 def differ(one, other, row):
@@ -93,7 +96,8 @@ SEARCHES = {
 
 # --- Wrong calculators ------------------------------------------------------------------------------
 
-CALCULATION = {"first_vectors", "row_means", "next_vectors", "weights", "tail", "level", "moment"}
+CALCULATION = {"first_vectors", "row_means", "next_vectors", "weights", "tail", "level", "moment",
+               "last_division"}
 
 
 def changed_functions(name):
@@ -123,6 +127,8 @@ def read_options(words):
     parser.add_argument("--step", type=models.positive, default=1)
     parser.add_argument("--within", type=models.positive, default=1, help="how far t may be from its bound")
     parser.add_argument("--least", type=models.positive, default=1, help="the least tolerance for which t is tried")
+    parser.add_argument("--off", type=int, help="twice what the last division leaves, less its divisor")
+    parser.add_argument("--quotient", type=int, help="of the last division, down")
     parser.add_argument("--finds", type=models.positive, default=4, help="stop after so many")
     parser.add_argument("--seconds", type=models.positive, default=60, help="stop after this time")
     options = parser.parse_args(words)
@@ -138,11 +144,14 @@ def read_options(words):
 
 def prepared(options):
     """The search that the options name; the calculators it needs go into the options."""
+    options.wrong_weights = None
     if options.name in SEARCHES:
         search = SEARCHES[options.name]
         return search._replace(tries=FAMILIES[options.family]) if options.family else search
     options.wrong = mutants.calculator(options.name)
     options.right = mutants.calculator(options.against) if options.against else calculator
+    if changed_functions(options.name) == {"weights"}:
+        options.wrong_weights = options.wrong.weights
     family = options.family or family_for(options.name)
     return Search(mutants.TABLE[options.name].what, FAMILIES[family], other_sheet)
 
@@ -151,7 +160,8 @@ def command(options, first, last):
     """The words that repeat the tries from first to last."""
     words = [options.name]
     for word, value, usual in (("against", options.against, None), ("family", options.family, None),
-                               ("seed", options.seed, 1), ("within", options.within, 1), ("least", options.least, 1)):
+                               ("seed", options.seed, 1), ("within", options.within, 1), ("least", options.least, 1),
+                               ("off", options.off, None), ("quotient", options.quotient, None)):
         if value != usual:
             words.append(f"--{word} {value}")
     if first == last:
@@ -173,12 +183,16 @@ def shown(row):
         return f"[{', '.join(map(number, value))}]" if isinstance(value, list) else f"{value:_}"
 
     def held(each):
-        return f'"{each}"' if isinstance(each, str) else f"{type(each).__name__}{tuple(each)}"
+        return f'"{each}"' if isinstance(each, str) else f"{type(each).__name__}({', '.join(map(number, each))})"
 
-    parts = [f'Edge("{row.name}", "{row.search}",', f'     [{", ".join(map(held, row.holds))}],',
-             f'     {", ".join(map(number, model_of(row)))}),']
-    parts[1] = textwrap.fill(parts[1], 116, subsequent_indent="      ", break_on_hyphens=False)
-    return textwrap.indent("\n".join(parts), "    ")
+    first = f'    Edge("{row.name}", "{row.search}",'
+    holds = textwrap.fill(f"[{', '.join(map(held, row.holds))}],", 110, break_on_hyphens=False)
+    *fields, rates = map(number, model_of(row))
+    model = f"{', '.join(fields)}, {rates}),"
+    return "\n".join([
+        first if len(first) <= 120 else first.replace(", ", ",\n         ", 1),
+        textwrap.indent(holds, " " * 10)[1:],
+        " " * 9 + (model if len(model) <= 111 else model.replace(f", {rates}", f",\n         {rates}"))])
 
 
 def run(options):
@@ -208,9 +222,13 @@ QUICK = [
     ("level-crossings --to 400", ["level-edge-216543796-at-310", "level-edge-224789569-at-318"]),
     ("t-nearest --to 130", ["level-edge-005499024-at-23"]),
     ("half-ticks --to 850", ["half-tick-1", "half-tick-2"]),
-    ("last-division-even --against last-division-nearest --to 850", ["half-tick-1", "half-tick-2"]),
-    ("m-nearest --to 330", ["rounding-m-nearest-1", "rounding-m-nearest-2"]),
-    ("weights-right-nearest --to 430", ["rounding-weights-right-nearest-1"]),
+    ("half-ticks --family power-of-two --to 560", ["half-tick-power-of-two-1", "half-tick-power-of-two-3"]),
+    ("half-ticks --family few-ticks --quotient 0 --to 300", ["half-tick-to-a-tick-less", "half-tick-to-a-tick-more"]),
+    ("half-ticks --family aimed --off -1 --to 40", ["half-tick-one-less-1", "half-tick-one-less-2"]),
+    ("last-division-even --to 850", ["half-tick-1", "half-tick-2"]),
+    ("last-division-even --against last-division-half-down --to 850", ["half-tick-1", "half-tick-2"]),
+    ("m-nearest --family pairs --to 730", ["rounding-m-nearest-1"]),
+    ("weights-right-nearest --family pairs --to 610", ["rounding-weights-right-nearest-1"]),
 ]
 
 
@@ -225,7 +243,7 @@ def holds_of(row, each):
         right = mutants.calculator(other) if other else calculator
         return differ(mutants.calculator(wrong), right, row)
     if isinstance(each, Half):
-        return each in half_ticks(row, None)
+        return each in (half for half, _ in last_divisions(row))
     model = calculator.read_model(built(row))
     level = each.n + (each.miss > 0)
     return (miss_at(model.X, each.n, model.epsilon), calculator.level(model.X, model.epsilon)) == (each.miss, level)
@@ -255,7 +273,7 @@ def self_test():
     """A row with another tolerance, and one that states too much, have to be told as wrong."""
     level, digits = edges.LEVEL_ROWS[0], edges.DIGIT_ROWS[-1]
     for row in (level._replace(epsilon=level.epsilon + 1), digits._replace(holds=["bound-up"]),
-                digits._replace(holds=[Half(1, 1, 0)]), digits._replace(T=digits.T + 1, holds=["row-mean-up"])):
+                digits._replace(holds=[Half(1, 1, 0, 0)]), digits._replace(T=digits.T + 1, holds=["row-mean-up"])):
         if not troubles(row):
             yield f"a changed row passes: {row}"
 
