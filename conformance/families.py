@@ -1,8 +1,8 @@
 """Families of small accepted models for search.py, in which a rounding or a border may decide the sheet.
 
-A family is a function of a try's number and of the search's options (seed, within, least, off, quotient, wrong_weights);
-it gives rows of edges.py with a model, for the level's families also with a name and with what holds of t. The same
-number always gives the same rows.
+A family is a function of a try's number and of the search's options (seed, within, least, off, quotient,
+wrong_weights); it gives rows of edges.py with a model, for the level's families also with a name and with what
+holds of t. The same number always gives the same rows.
 """
 
 import math
@@ -147,11 +147,13 @@ def two_states(k, options):
     return (pairs if k % 2 else round_numbers)(k, options)
 
 
-# --- Aimed at a half: five states, the last division of the first figure as near to a half as can be ------------
+# --- Five states, aimed at a half -----------------------------------------------------------------------------
+# State 1 has its own reward and is left for three absorbing states; a fifth state, never reached, has the largest
+# reward and the largest row sum. Their rewards are set so that A of state 1 and r = 1 is a wanted number.
 
 def half_sums(S):
-    """{off: A, step}: the sums A, A + step, ... below S for which twice what A 10^12 leaves by S is S + off, for
-    the off nearest to 0: 0 itself, or one on each side."""
+    """{off: (A, step)}: for the sums A, A + step and so on, twice what A 10^12 over S leaves is S + off. The offs are
+    those nearest to 0: 0 itself, or else one on each side."""
     common = math.gcd(2 * ONE, 2 * S)
     step = 2 * S // common
     inverse = pow(2 * ONE // common, -1, step)
@@ -185,7 +187,8 @@ def least_inflow(A, sum_for, E, most):
 
 
 def rewards_for(low, high, rates, F):
-    """Rewards of three absorbing states, each rate much below the one before, for an inflow from low to high; or None."""
+    """Rewards of three absorbing states, each rate much below the one before, for an inflow from low to high, or
+    None."""
     most = min(F, low * F // (rates[0] * ONE))
     for first in range(most, max(most - FIRST_REWARDS, -1), -1):
         rest = low - rates[0] * (first * ONE // F)
@@ -198,7 +201,7 @@ def rewards_for(low, high, rates, F):
 
 
 def aim(rng, A, w, E):
-    """Rewards and rates for which the sum of state 1 is A, or None."""
+    """A draw of rates and of the first reward, and the other rewards for which the sum of state 1 is A, or None."""
     F = rng.randint(500_000, 1_000_000)
     own = min(F, int(F * A / sum(w) * rng.uniform(0.5, 1.5)))
     rates = [rng.randint(E // 4, E // 2), 1 + E * rng.randint(1, 9) // 50_000, 1 + E * rng.randint(0, 9) // 5_000_000]
@@ -208,7 +211,9 @@ def aim(rng, A, w, E):
         return sum_of_first(w, E, E - sum(rates), inflow, own * ONE // F)
 
     low = least_inflow(A, sum_for, E, most)
-    rewards = sum_for(low) == A and rewards_for(low, least_inflow(A + 1, sum_for, E, most) - 1, rates, F)
+    if sum_for(low) != A:
+        return None
+    rewards = rewards_for(low, least_inflow(A + 1, sum_for, E, most) - 1, rates, F)
     return ([own, *rewards, F], [rates + [0], [0] * 4, [0] * 4, [0] * 4, [E, 0, 0, 0]]) if rewards else None
 
 
@@ -243,7 +248,7 @@ def aimed(k, options):
 
 
 def aimed_long(k, options):
-    """q from 13 on: S(N) is above 2^53."""
+    """q from 13 to 250, where S(N) passes 2^53."""
     return aimed_at(random.Random(f"aimed long {options.seed} {k}"), options, 13_000_000, 250_000_000)
 
 

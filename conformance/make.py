@@ -217,7 +217,7 @@ def tolerances():
 
 
 def figures():
-    """Figures at the two ends: 0, a tick, others below 10^-4, 1 less a tick, and 1."""
+    """Figures at the two ends: 0, two ticks, others below 10^-4, 1 less a tick, and 1."""
     yield "figures-no-rates", models.build(1, 4, 3, 1_000, 3_000_000, [700_000, 0, 1, 699_999], [[0, 0, 0]] * 4)
     yield "figures-small", models.build(1, 2, 8, 1_000, 1, [0, 1_000_000], [[1], [5_000_000]])
     yield "figures-1-less-a-tick", models.build(1, 2, 3, 1_000, 1, [1_000_000, 999_999], [[1], [0]])

@@ -122,9 +122,9 @@ def nearest_to(a):
     return nearest(a.numerator, a.denominator)
 
 
-def decimal28(a, b, rounding):
-    """a / b in ticks: 28 significant decimal digits, then rounded to twelve decimals."""
-    share = Context(prec=28).divide(Decimal(a), Decimal(b))
+def decimal(a, b, digits, rounding):
+    """a / b in ticks: so many significant decimal digits, then rounded to twelve decimals."""
+    share = Context(prec=digits).divide(Decimal(a), Decimal(b))
     return int(share.quantize(Decimal("1e-12"), rounding).scaleb(12))
 
 
@@ -255,7 +255,7 @@ def read_pieces(stream, size, most, enough=lambda file: False):
     return file
 
 
-HELPERS = (math.comb, up, nearest, even, binary64, binary32, extended, significant64, nearest_to, decimal28, digits15,
+HELPERS = (math.comb, up, nearest, even, binary64, binary32, extended, significant64, nearest_to, decimal, digits15,
            signed, signed_bytes, by_columns, overwritten, unless_still, poisson, e_to_q, relation_10, exponent,
            as_binary64, crash, row_holds, row_by_row, state_by_state, read_pieces)
 
@@ -645,13 +645,15 @@ LAST_DIVISION = [
     last("odd", "rounded to the nearest, a half to the odd one", "even(A * ONE + S, S) - 1"),
     last("digit-above-5", "going up where the 13th decimal is above 5", "(A * ONE * 10 // S + 4) // 10"),
     *rounded_twice(),
-    last("decimal", "with 28 decimal digits, a half going up", "decimal28(A, S, 'ROUND_HALF_UP')"),
-    last("decimal-even", "with 28 decimal digits, a half to the even one", "decimal28(A, S, 'ROUND_HALF_EVEN')"),
+    last("decimal", "with 28 decimal digits, a half going up", "decimal(A, S, 28, 'ROUND_HALF_UP')"),
+    last("decimal-even", "with 28 decimal digits, a half to the even one", "decimal(A, S, 28, 'ROUND_HALF_EVEN')"),
     last("binary64", "in binary64", "int(float(A) * ONE / float(S) + 0.5)"),
     last("binary64-once", "as the nearest binary64, rounded, a half to the even one", "round(A * ONE / S)"),
     last("share", "as A / S(N) in binary64, times 10^12", "int(A / S * ONE + 0.5)"),
     last("share-printed", "as A / S(N) in binary64, printed with twelve decimals",
          'int(f"{A / S:.12f}".replace(".", ""))'),
+    last("share-fixed", "as A / S(N) in binary64, printed with twelve decimals, a half going up",
+         "nearest_to(Fraction(A / S) * ONE)"),
     last("extended", "with 64 significant bits", "nearest_to(significant64(significant64(Fraction(A * ONE)) / S))"),
     last("share-extended", "as A / S(N) with 64 significant bits, times 10^12",
          "nearest_to(significant64(significant64(Fraction(A, S)) * ONE))"),
@@ -664,7 +666,10 @@ LAST_DIVISION = [
     last("15-digits", "with 15 digits of A", "nearest(digits15(A) * ONE, S)"),
     last("first-divided", "with S(N) divided by 1,000 before it", "nearest(A * BILLION, S // 1000)"),
     last("S-halved", "by half of S(N), down, and the quotient halved", "(A * ONE // (S // 2) + 1) // 2"),
+    last("half-tick-of-A", "down after half a tick in units of A, down, is added to A",
+         "(A + S // (2 * ONE)) * ONE // S"),
     half_test("S-halved", "the remainder is half of S(N), down, or more", "left >= S // 2"),
+    half_test("S-halved-binary64", "the remainder is half of S(N) in binary64 or more", "left >= S / 2"),
     half_test("share", "the remainder over S(N) in binary64 is 0.5 or more", "left / S >= 0.5"),
     half_test("binary64", "twice the remainder is S(N) or more, both in binary64", "2.0 * left >= float(S)"),
     half_test("remainder-binary64", "the remainder worked out in binary64 is half of S(N) or more",
@@ -794,6 +799,8 @@ EQUIVALENT = [
          "(2 * A * ONE // S + 1) // 2"),
     last("cut-at-13", "cut to 13 decimals, then rounded, a half going up: from a half on the 13th decimal is 5 or more",
          "nearest(A * ONE * 10 // S, 10)"),
+    last("decimal-34", "with 34 decimal digits, a half going up: that is off by 10^-21 of a tick at most, and what "
+         "is no half differs from one by 10^-19 or more", "decimal(A, S, 34, 'ROUND_HALF_UP')"),
     last("at-most-one", "never above 10^12: A is at most S(N), as no number of a vector is above 10^12",
          "min(nearest(A * ONE, S), ONE)"),
     half_test("difference", "S(N) less the remainder is not above the remainder: twice the remainder is S(N) or more",

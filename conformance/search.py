@@ -50,7 +50,7 @@ def built(row):
 
 
 def last_divisions(row):
-    """What the last division of every moment gives and leaves, and its divisor."""
+    """The last division of every moment."""
     model = calculator.read_model(built(row))
     N = calculator.level(model.X, model.epsilon)
     w = calculator.weights(model.X, N)
@@ -59,19 +59,19 @@ def last_divisions(row):
     for i in range(model.M):
         for r in range(1, model.R + 1):
             A = sum(w[n] * U[n][r][i] // ONE for n in range(N + 1))
-            yield Half(i + 1, r, A * ONE // S, 2 * (A * ONE % S) - S), S
+            yield Half(i + 1, r, S, A * ONE // S, 2 * (A * ONE % S) - S)
 
 
 def half_ticks(row, options):
     """The moments whose last division leaves half its divisor, or a little less or more."""
-    def near(half, S):
+    def near(half):
         if options.quotient not in (None, half.quotient):
             return False
         if options.off is not None:
             return half.off == options.off
-        return abs(half.off) * NEAR_HALF <= S if options.quotient is None else abs(half.off) <= NEAR_BORDER
+        return abs(half.off) <= (half.divisor // NEAR_HALF if options.quotient is None else NEAR_BORDER)
 
-    return [half for half, S in last_divisions(row) if near(half, S)]
+    return list(filter(near, last_divisions(row)))
 
 
 def differ(one, other, row):
@@ -186,7 +186,8 @@ def shown(row):
         return f'"{each}"' if isinstance(each, str) else f"{type(each).__name__}({', '.join(map(number, each))})"
 
     first = f'    Edge("{row.name}", "{row.search}",'
-    holds = textwrap.fill(f"[{', '.join(map(held, row.holds))}],", 110, break_on_hyphens=False)
+    items = [held(each).replace(" ", "\0") for each in row.holds]        # not to be broken
+    holds = textwrap.fill(f"[{', '.join(items)}],", 110, break_on_hyphens=False).replace("\0", " ")
     *fields, rates = map(number, model_of(row))
     model = f"{', '.join(fields)}, {rates}),"
     return "\n".join([
@@ -243,7 +244,7 @@ def holds_of(row, each):
         right = mutants.calculator(other) if other else calculator
         return differ(mutants.calculator(wrong), right, row)
     if isinstance(each, Half):
-        return each in (half for half, _ in last_divisions(row))
+        return each in last_divisions(row)
     model = calculator.read_model(built(row))
     level = each.n + (each.miss > 0)
     return (miss_at(model.X, each.n, model.epsilon), calculator.level(model.X, model.epsilon)) == (each.miss, level)
@@ -259,7 +260,8 @@ def found_by(words):
 
 def troubles(row):
     """What is wrong with a row: a line for each thing that does not hold, and for a search that does not find it."""
-    result = [] if row.holds else ["nothing is said to hold of it"]
+    result = [word for word, given in (("nothing is said to hold of it", row.holds), ("it names no search", row.search))
+              if not given]
     try:
         result += [f"{each} does not hold" for each in row.holds if not holds_of(row, each)]
     except KeyError as name:
@@ -270,17 +272,18 @@ def troubles(row):
 
 
 def self_test():
-    """A row with another tolerance, and one that states too much, have to be told as wrong."""
+    """A row with another tolerance or time, one that states too much and one without a search have to be told."""
     level, digits = edges.LEVEL_ROWS[0], edges.DIGIT_ROWS[-1]
     for row in (level._replace(epsilon=level.epsilon + 1), digits._replace(holds=["bound-up"]),
-                digits._replace(holds=[Half(1, 1, 0, 0)]), digits._replace(T=digits.T + 1, holds=["row-mean-up"])):
+                digits._replace(holds=[digits.holds[0]._replace(off=0)]), digits._replace(search=""),
+                digits._replace(T=digits.T + 1, holds=["row-mean-up"])):
         if not troubles(row):
             yield f"a changed row passes: {row}"
 
 
 def check():
     """Every row of edges.py: what it states holds, its try gives it; and the quick searches find what is stored."""
-    start, kept = time.monotonic(), sum(1 for row in edges.EDGES if row.search)
+    start = time.monotonic()
     lines = list(self_test()) + [f"{row.name}: {line}" for row in edges.EDGES for line in troubles(row)]
     rows = {row.name: row for row in edges.EDGES}
     for words, names in QUICK:
@@ -288,8 +291,8 @@ def check():
         lines += [f"{name}: not found by search.py {words}" for name in names if model_of(rows[name]) not in found]
     for line in lines:
         print(line)
-    print(f"edges: {len(edges.EDGES)} rows tried, {kept} of them made again by their search, {len(QUICK)} short "
-          f"searches; {len(lines)} faults, {time.monotonic() - start:.1f} seconds")
+    print(f"edges: {len(edges.EDGES)} rows, each tried and made again by its search, {len(QUICK)} short searches; "
+          f"{len(lines)} faults, {time.monotonic() - start:.1f} seconds")
     return 1 if lines else 0
 
 
