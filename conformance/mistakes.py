@@ -53,8 +53,8 @@ SUM_S = "        S += w[n]\n"
 LEVEL_FOUND = "            return n\n"
 TERM = "w[n] * U[n][r][i] // ONE"
 A = f"sum({TERM} for n in range(N + 1))"
-LAST = "quotient, left = divmod(A * ONE, S)\n    return quotient + 1 if 2 * left >= S else quotient"
 FROM_HALF = "2 * left >= S"
+LAST = f"quotient, left = divmod(A * ONE, S)\n    return quotient + 1 if {FROM_HALF} else quotient"
 OVER_S = "last_division(A, sum(w[:N + 1]))"
 CELL = "cells[(i - 1) * model.R + (r - 1)] = "
 FIGURE = "{ticks // ONE}.{ticks % ONE:012d}"
@@ -175,6 +175,21 @@ def poisson(X, last):
     return [int(1e15 * math.exp(n * math.log(q) - q - math.lgamma(n + 1))) for n in range(last + 1)]
 
 
+def cut_once(X, last):
+    """The weights worked out without rounding, each cut to a whole number at its end."""
+    m = X // 10**6
+    w = [0] * m + [10**15] + [0] * (last - m)
+    above, below = 10**15, 1
+    for n in range(m, last):
+        above, below = above * X, below * (n + 1) * 10**6
+        w[n + 1] = above // below
+    above, below = 10**15, 1
+    for n in range(m, 0, -1):
+        above, below = above * n * 10**6, below * X
+        w[n - 1] = above // below
+    return w
+
+
 def e_to_q(X):
     """e^q on the scale of the weights, in which q^m / m! is 10^15."""
     q = X / 10**6
@@ -256,8 +271,8 @@ def read_pieces(stream, size, most, enough=lambda file: False):
 
 
 HELPERS = (math.comb, up, nearest, even, binary64, binary32, extended, significant64, nearest_to, decimal, digits15,
-           signed, signed_bytes, by_columns, overwritten, unless_still, poisson, e_to_q, relation_10, exponent,
-           as_binary64, crash, row_holds, row_by_row, state_by_state, read_pieces)
+           signed, signed_bytes, by_columns, overwritten, unless_still, poisson, cut_once, e_to_q, relation_10,
+           exponent, as_binary64, crash, row_holds, row_by_row, state_by_state, read_pieces)
 
 
 # --- The model file --------------------------------------------------------------------------------
@@ -516,6 +531,8 @@ WEIGHT_LIST = [
     wrong("weights-from-0-64-bit", "weights started at n = 0, the products in 64 bits", (WEIGHTS_M, "m = 0\n    w = "),
           (RIGHT, "w[n] * X % 2**64 // ((n + 1) * MILLION)")),
     wrong("weights-poisson", "weights as probabilities in binary64", ("w[m] = TOP_WEIGHT", "return poisson(X, last)")),
+    wrong("weights-cut-once", "weights worked out without rounding, each cut at its end",
+          ("w[m] = TOP_WEIGHT", "return cut_once(X, last)")),
     wrong("weights-top-10-to-12", "w(m) = 10^12", ("TOP_WEIGHT = 10**15", "TOP_WEIGHT = 10**12")),
     wrong("weights-top-10-to-18", "w(m) = 10^18", ("TOP_WEIGHT = 10**15", "TOP_WEIGHT = 10**18")),
     wrong("weights-whole-q", "q rounded down in the weights", (WEIGHTS, WEIGHTS + "    X = max(m, 1) * MILLION\n")),
@@ -645,11 +662,16 @@ LAST_DIVISION = [
     last("odd", "rounded to the nearest, a half to the odd one", "even(A * ONE + S, S) - 1"),
     last("digit-above-5", "going up where the 13th decimal is above 5", "(A * ONE * 10 // S + 4) // 10"),
     *rounded_twice(),
+    last("cut-at-13-binary64", "cut to 13 decimals, then rounded to twelve in binary64",
+         "int(A * ONE * 10 // S / 1e13 * 1e12 + 0.5)"),
     last("decimal", "with 28 decimal digits, a half going up", "decimal(A, S, 28, 'ROUND_HALF_UP')"),
     last("decimal-even", "with 28 decimal digits, a half to the even one", "decimal(A, S, 28, 'ROUND_HALF_EVEN')"),
     last("binary64", "in binary64", "int(float(A) * ONE / float(S) + 0.5)"),
     last("binary64-once", "as the nearest binary64, rounded, a half to the even one", "round(A * ONE / S)"),
     last("share", "as A / S(N) in binary64, times 10^12", "int(A / S * ONE + 0.5)"),
+    last("share-half-added", "as A / S(N) in binary64, cut to twelve decimals after 5 10^-13 is added",
+         "int((A / S + 5e-13) * ONE)"),
+    last("reciprocal", "as A times 10^12 / S(N) in binary64", "int(A * (ONE / S) + 0.5)"),
     last("share-printed", "as A / S(N) in binary64, printed with twelve decimals",
          'int(f"{A / S:.12f}".replace(".", ""))'),
     last("share-fixed", "as A / S(N) in binary64, printed with twelve decimals, a half going up",
@@ -677,8 +699,8 @@ LAST_DIVISION = [
     half_test("quarter", "the remainder is a quarter of S(N) or more", "4 * left >= S"),
     wrong("last-division-first-moments", "the last division rounded to the nearest for r = 1 alone",
           (OVER_S, OVER_S + " if r == 1 else A * ONE // sum(w[:N + 1])")),
-    carry("lost", "rounding up, a last digit 9 becomes 0 and nothing is carried",
-          "quotient - quotient % 10 + (quotient + 1) % 10"),
+    *(carry(f"within-{places}", f"rounding up, the carry goes no further than the last decimals, {places} of them",
+            f"quotient - quotient % 10**{places} + (quotient + 1) % 10**{places}") for places in (1, 2, 6, 9)),
     carry("one-missed", "a moment that rounds to 1 left at 0.999999999999", "min(quotient + 1, ONE - 1)"),
     carry("one-lost", "a moment that rounds to 1 printed as 0.000000000000", "(quotient + 1) % ONE"),
     carry("one-in-13-digits", "a moment that rounds to 1 printed as 0.1000000000000",

@@ -3,6 +3,7 @@
 
     python3 conformance/search.py                         the searches, one line each
     python3 conformance/search.py NAME [--from K] [--to K] [--step D] [--seed S] [--finds F] [--seconds T]
+    python3 conformance/search.py half-ticks [--off D] [--quotient Q] [--family F]
     python3 conformance/search.py WRONG --against OTHER   two calculators of mistakes.py against each other
     python3 conformance/search.py --check                 every row of edges.py holds, and its search finds it
 
@@ -31,7 +32,7 @@ from edges import Edge, Half  # noqa: E402
 from families import FAMILIES, level_blocks, level_crossings, level_edges, miss_at, two_states  # noqa: E402
 
 NEAR_HALF = 10**5      # "a little" off the half is at most this part of the divisor
-NEAR_BORDER = 2 * ONE  # where a quotient is given: another A, one less or more, is on the other side of the half
+NEAR_BORDER = 2 * ONE  # or, for a given quotient, what one more in A adds to twice the remainder
 
 # tries(K, options) gives rows without a search; judge(row, options) what holds of a row, or nothing.
 Search = namedtuple("Search", "what tries judge")
@@ -96,8 +97,7 @@ SEARCHES = {
 
 # --- Wrong calculators ------------------------------------------------------------------------------
 
-CALCULATION = {"first_vectors", "row_means", "next_vectors", "weights", "tail", "level", "moment",
-               "last_division"}
+CALCULATION = {"first_vectors", "row_means", "next_vectors", "weights", "tail", "level", "moment", "last_division"}
 
 
 def changed_functions(name):
