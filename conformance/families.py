@@ -15,10 +15,10 @@ from edges import Edge, Level
 from models import MAX_ROW_SUM, MAX_TOLERANCE, MAX_X
 
 BLOCK = 1_000          # X in a block
-AIMS = 300             # draws of rates and rewards in a try of an aimed family
+FORETOLD = 2e-7        # how far a foretold tolerance may be off, by the rounding of the weights
+AIMS = 300             # draws of rates and rewards for each A that a try aims at
 NEAR_FORETOLD = 50     # ticks by which a foretold inflow may be off
 FIRST_REWARDS = 300    # of the first absorbing state, tried for an inflow
-FORETOLD = 2e-7        # how far a foretold tolerance may be off, by the rounding of the weights
 
 
 # --- Level: t and its bound ------------------------------------------------------------------------
@@ -173,7 +173,7 @@ def sum_of_first(w, E, stay, inflow, u):
 
 
 def least_inflow(A, sum_for, E, most):
-    """The least inflow for which the sum of state 1 is A or more; `most` or more where none is found. The sum grows
+    """The least inflow for which the sum of state 1 is A or more; `most` where A is out of reach. The sum grows
     evenly, so that only inflows near a foretold one are tried."""
     none, all_of_it = sum_for(0), sum_for(most)
     if not none < A <= all_of_it:

@@ -693,6 +693,8 @@ LAST_DIVISION = [
     half_test("S-halved", "the remainder is half of S(N), down, or more", "left >= S // 2"),
     half_test("S-halved-binary64", "the remainder is half of S(N) in binary64 or more", "left >= S / 2"),
     half_test("share", "the remainder over S(N) in binary64 is 0.5 or more", "left / S >= 0.5"),
+    half_test("share-binary64", "the remainder over S(N), both in binary64 before, is 0.5 or more",
+              "float(left) / float(S) >= 0.5"),
     half_test("binary64", "twice the remainder is S(N) or more, both in binary64", "2.0 * left >= float(S)"),
     half_test("remainder-binary64", "the remainder worked out in binary64 is half of S(N) or more",
               "2 * (float(A) * ONE - float(quotient) * S) >= S"),
@@ -819,7 +821,7 @@ EQUIVALENT = [
          "(A * ONE + S // 2) // S"),
     last("in-halves", "as 2 A 10^12 over S(N), down, plus 1, halved: the halves of a tick are counted",
          "(2 * A * ONE // S + 1) // 2"),
-    last("cut-at-13", "cut to 13 decimals, then rounded, a half going up: from a half on the 13th decimal is 5 or more",
+    last("cut-at-13", "cut to 13 decimals, then rounded, a half going up: the 13th decimal is 5 or more from a half on",
          "nearest(A * ONE * 10 // S, 10)"),
     last("decimal-34", "with 34 decimal digits, a half going up: that is off by 10^-21 of a tick at most, and what "
          "is no half differs from one by 10^-19 or more", "decimal(A, S, 34, 'ROUND_HALF_UP')"),

@@ -185,15 +185,15 @@ def shown(row):
     def held(each):
         return f'"{each}"' if isinstance(each, str) else f"{type(each).__name__}({', '.join(map(number, each))})"
 
-    first = f'    Edge("{row.name}", "{row.search}",'
+    first = f'Edge("{row.name}", "{row.search}",'
     items = [held(each).replace(" ", "\0") for each in row.holds]        # not to be broken
-    holds = textwrap.fill(f"[{', '.join(items)}],", 110, break_on_hyphens=False).replace("\0", " ")
+    holds = textwrap.fill(f"[{', '.join(items)}],", 110, subsequent_indent=" ", break_on_hyphens=False)
     *fields, rates = map(number, model_of(row))
     model = f"{', '.join(fields)}, {rates}),"
-    return "\n".join([
-        first if len(first) <= 120 else first.replace(", ", ",\n         ", 1),
-        textwrap.indent(holds, " " * 10)[1:],
-        " " * 9 + (model if len(model) <= 111 else model.replace(f", {rates}", f",\n         {rates}"))])
+    lines = [first if len(first) <= 116 else first.replace(", ", ",\n     ", 1),
+             textwrap.indent(holds.replace("\0", " "), " " * 5),
+             textwrap.indent(model if len(model) <= 111 else model.replace(f", {rates}", f",\n{rates}"), " " * 5)]
+    return textwrap.indent("\n".join(lines), " " * 4)
 
 
 def run(options):
