@@ -61,7 +61,7 @@ LEFT = {
 # --- The files ------------------------------------------------------------------------------------------------
 
 # Models of the comparison kit whose last division leaves half of its divisor for some moment, or a little less or more.
-HALVES = ["half-tick-1", "half-tick-2", "half-tick-3", "half-tick-less-1", "half-tick-more-2"]
+HALVES = ["half-tick-3", "half-tick-to-one-1", "half-tick-to-one-less", "half-tick-to-a-tick-1", "half-tick-to-a-tick-less", "half-tick-one-less-2", "half-tick-to-0-1-more"]
 
 # A file with the cells lent, and the rule that stops it (0: none).
 Case = namedtuple("Case", "name rule file lent")
