@@ -1,4 +1,4 @@
--- Document 01 as definitions, a module for each of its sections, in its order.
+-- Document 01, with request S-1 of document 02 (the last rounding), as definitions: a module for each of its sections, in its order.
 -- The paper counts states from 1. Here states and cells are counted from 0: the paper's state i is i − 1 here. Moments r are counted from 1 in both.
 pub mod Sums
 pub mod Bytes
