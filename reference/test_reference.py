@@ -349,12 +349,15 @@ class LastDivision(unittest.TestCase):
                 self.check_nearest(A, S)
 
     def test_earlier_roundings_stay_down(self):
-        # State 2 is left for state 1 alone. U(0,1) is 10^12 over 3; U(1,1) is 10^12 + 333333333333 over 2, which is
-        # a half; w(1) is 48576 * 10^9, and its term leaves more than a half.
-        file = models.build(1, 2, 1, 100_000_000, 1, [3, 1], [[0], [48_576]])
-        self.assertEqual(48_576 * 666666666666, 32383999999967616)
+        # At state 2 every quotient leaves half of its divisor or more: U(0,1) and W, V, of which 40480 / 48576 = 5/6
+        # come from state 1, U(1,1), and the term of w(1) = 48576 * 10^9.
+        file = models.build(1, 2, 1, 100_000_000, 1, [9, 7], [[48_576], [40_480]])
+        self.assertEqual(divmod(7 * ONE, 9), (777777777777, 7))
+        self.assertEqual(divmod(5 * ONE + 777777777777, 6), (962962962962, 5))
+        self.assertEqual(divmod(962962962962 + 777777777777, 2), (870370370369, 1))
+        self.assertEqual(divmod(48_576 * 870370370369, 1_000), (42279111111044, 544))
         A, S = last_divisions(file)[1]
-        self.assertEqual(A, 333333333333000 + 32383999999967)
+        self.assertEqual(A, 777777777777000 + 42279111111044)
         self.assertEqual(S, 1_048_576 * 10**9)
 
     def test_half_tick_models(self):
