@@ -304,9 +304,9 @@ class LastDivision(unittest.TestCase):
                     parities.add(quotient % 2)
         self.assertEqual(parities, {0, 1})
 
-    def check_nearest(self, A, S):
+    def check_nearest(self, A, S, ticks):
         """Half a tick too much may be, half a tick too little may not."""
-        above = 2 * (last_division(A, S) * S - A * ONE)     # twice the distance, times S
+        above = 2 * (ticks * S - A * ONE)           # twice the distance, times S
         self.assertTrue(-S < above <= S, (A, S))
 
     def drawn(self):
@@ -323,7 +323,7 @@ class LastDivision(unittest.TestCase):
 
     def test_nearest(self):
         for A, S in self.drawn():
-            self.check_nearest(A, S)
+            self.check_nearest(A, S, last_division(A, S))
 
     def test_limits(self):
         for A, S in self.drawn():
@@ -341,12 +341,13 @@ class LastDivision(unittest.TestCase):
 
     def test_nearest_in_generated_models(self):
         for name, file in models.valid_models(5, 45):
-            M, R = file[3], file[4]
+            cells = [None] * (file[3] * file[4])
+            calculator.calculate(file, cells)
             divisions = last_divisions(file)
-            self.assertEqual(len(divisions), M * R, name)
-            for A, S in divisions:
+            self.assertEqual(len(divisions), len(cells), name)
+            for (A, S), ticks in zip(divisions, cells):
                 self.assertLessEqual(A, S, name)
-                self.check_nearest(A, S)
+                self.check_nearest(A, S, ticks)
 
     def test_earlier_roundings_stay_down(self):
         # At state 2 every quotient leaves half of its divisor or more: U(0,1) and W, V, of which 40480 / 48576 = 5/6
