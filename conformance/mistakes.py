@@ -693,8 +693,6 @@ LAST_DIVISION = [
     half_test("S-halved", "the remainder is half of S(N), down, or more", "left >= S // 2"),
     half_test("S-halved-binary64", "the remainder is half of S(N) in binary64 or more", "left >= S / 2"),
     half_test("share", "the remainder over S(N) in binary64 is 0.5 or more", "left / S >= 0.5"),
-    half_test("share-binary64", "the remainder over S(N), both in binary64 before, is 0.5 or more",
-              "float(left) / float(S) >= 0.5"),
     half_test("binary64", "twice the remainder is S(N) or more, both in binary64", "2.0 * left >= float(S)"),
     half_test("remainder-binary64", "the remainder worked out in binary64 is half of S(N) or more",
               "2 * (float(A) * ONE - float(quotient) * S) >= S"),
