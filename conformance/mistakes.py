@@ -845,9 +845,9 @@ EQUIVALENT = [
     border(13, "left-out", "not tested: 512 cells are enough for 64 states and 8 moments", "False"),
 ]
 
-GROUPS = (MODEL_FILE, REFUSAL_TABLE, CHAIN, VECTORS, WEIGHT_LIST, LEVEL, MOMENTS, LAST_DIVISION, SHEET, PROGRAMS)
+CALCULATION = (*CHAIN, *VECTORS, *WEIGHT_LIST, *LEVEL, *MOMENTS, *LAST_DIVISION)
 TABLE = {}
-for _entry in (entry for group in GROUPS for entry in group):
+for _entry in (*MODEL_FILE, *REFUSAL_TABLE, *CALCULATION, *SHEET, *PROGRAMS):
     if _entry.name in TABLE:
         raise ValueError(f"two wrong calculators are named {_entry.name}")
     TABLE[_entry.name] = _entry

@@ -2,13 +2,15 @@
 """Searches for edge files of the kit: small models on which a rounding or a border decides the sheet.
 
     python3 conformance/search.py                         the searches, one line each
-    python3 conformance/search.py NAME [--from K] [--to K] [--step D] [--seed S] [--finds F] [--seconds T]
-    python3 conformance/search.py half-ticks [--off D] [--quotient Q] [--family F]
+    python3 conformance/search.py NAME [--from K] [--to K] [--step D] [--try K] [--seed S] [--finds F] [--seconds T]
+    python3 conformance/search.py NAME [--within D] [--least E]                 for t and its bound
+    python3 conformance/search.py NAME [--off D] [--quotient Q] [--family F]    for the last division
     python3 conformance/search.py WRONG --against OTHER   two calculators of mistakes.py against each other
     python3 conformance/search.py --check                 every row of edges.py holds, and its search finds it
 
-NAME is a search of the list or a wrong calculator of mistakes.py. A search makes numbered tries: number K
-always gives the same models. What it finds is printed as rows of edges.py.
+NAME is a search of the list or a wrong calculator of mistakes.py, for which --family chooses the models too. A search
+makes numbered tries: number K always gives the same models. What it finds is printed as rows of edges.py. --help says
+what each option is.
 """
 
 import os
@@ -24,6 +26,7 @@ sys.path.insert(0, os.path.join(os.path.dirname(HERE), "reference"))
 
 import calculator  # noqa: E402
 import edges  # noqa: E402
+import mistakes  # noqa: E402
 import models  # noqa: E402
 import mutants  # noqa: E402
 import runner  # noqa: E402
@@ -97,9 +100,6 @@ SEARCHES = {
 
 # --- Wrong calculators ------------------------------------------------------------------------------
 
-CALCULATION = {"first_vectors", "row_means", "next_vectors", "weights", "tail", "level", "moment", "last_division"}
-
-
 def changed_functions(name):
     """The functions of the reference that a wrong calculator changes."""
     text = mutants.reference_text()
@@ -120,15 +120,15 @@ def read_options(words):
     parser.add_argument("name", help="a search, or a wrong calculator of mistakes.py")
     parser.add_argument("--against", metavar="OTHER", help="a second wrong calculator in place of the reference")
     parser.add_argument("--family", choices=sorted(FAMILIES), help="the models to try")
-    parser.add_argument("--seed", type=int, default=1)
+    parser.add_argument("--seed", type=int, default=1, help="of the models")
     parser.add_argument("--from", type=models.positive, default=1, dest="first", metavar="K", help="the first try")
     parser.add_argument("--to", type=models.positive, default=models.MAX_X, dest="last", metavar="K", help="the last")
     parser.add_argument("--try", type=models.positive, dest="only", metavar="K", help="try K alone")
-    parser.add_argument("--step", type=models.positive, default=1)
+    parser.add_argument("--step", type=models.positive, default=1, help="from one try to the next")
     parser.add_argument("--within", type=models.positive, default=1, help="how far t may be from its bound")
     parser.add_argument("--least", type=models.positive, default=1, help="the least tolerance for which t is tried")
     parser.add_argument("--off", type=int, help="twice what the last division leaves, less its divisor")
-    parser.add_argument("--quotient", type=int, help="of the last division, down")
+    parser.add_argument("--quotient", type=int, help="of the last division, rounded down")
     parser.add_argument("--finds", type=models.positive, default=4, help="stop after so many")
     parser.add_argument("--seconds", type=models.positive, default=60, help="stop after this time")
     options = parser.parse_args(words)
@@ -150,7 +150,7 @@ def prepared(options):
         return search._replace(tries=FAMILIES[options.family]) if options.family else search
     options.wrong = mutants.calculator(options.name)
     options.right = mutants.calculator(options.against) if options.against else calculator
-    if changed_functions(options.name) == {"weights"}:
+    if changed_functions(options.name) == {"weights"} and not options.against:
         options.wrong_weights = options.wrong.weights
     family = options.family or family_for(options.name)
     return Search(mutants.TABLE[options.name].what, FAMILIES[family], other_sheet)
@@ -300,9 +300,8 @@ def list_searches():
     """A line for each search, then for each wrong calculator that changes a step of the calculation."""
     for name, search in SEARCHES.items():
         print(f"{name}: {search.what}")
-    for name, entry in mutants.TABLE.items():
-        if changed_functions(name) <= CALCULATION:
-            print(f"{name}: models that show it: {entry.what}")
+    for entry in mistakes.CALCULATION:
+        print(f"{entry.name}: models that show it: {entry.what}")
     return 0
 
 
