@@ -255,7 +255,7 @@ def rounding_edge(rng):
 def half_tick(rng):
     """Two states and N = 1: of 1,000 drawn pairs of rewards the one with which the last division of state 1's first
     moment comes nearest to a half. Two of three X have enough factors of two for a half to be met."""
-    X = rng.choice([48_576, 8_000 + 16_000 * rng.randint(0, 29), rng.randint(1, 474_000)])
+    X = rng.choice([48_576, 8_000 + 16_000 * rng.randint(0, 29), rng.randint(1, 474_000)])  # N is 1 up to X = 474,271
     S = 10**15 + 10**9 * X                                             # w(0) + w(1)
 
     def off_half(rewards):

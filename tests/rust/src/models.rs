@@ -288,7 +288,7 @@ pub fn half_tick(chance: &mut Chance) -> Fields {
     let x = match chance.between(0, 2) {
         0 => 48_576,
         1 => 8_000 + 16_000 * chance.between(0, 29),
-        _ => chance.between(1, 474_000),
+        _ => chance.between(1, 474_000), // N is 1 up to X = 474,271
     };
     // S(1) is 10^9 × (1,000,000 + X), so A × 10^12 over it is 1,000 × A over 1,000,000 + X.
     let divisor = 1_000_000 + x;
