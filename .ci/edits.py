@@ -28,7 +28,7 @@ Made by `.ci/edits.py`; the gate fails where this page is not what it would writ
 
 `crates/NAME/must-fail/LABEL.edit` changes a crate in one place or a few; `rt ci` applies each to a copy and passes only where the prover refuses it. Every one is
 refused because a fact fails: the first refusal in `target/must-fail/NAME/LABEL/.log` is either a counterexample (numbers at which all that is
-known holds and the goal fails) or two sides of a goal that differ, shown here where they are short. "Refused in" names the module or the function whose proof
+known holds and the goal fails) or two sides of a goal that differ, shown here where they are short; "as printed" stands where the prover computed neither side. "Refused in" names the module or the function whose proof
 fails, and the fact: `returns` is what the function ensures, `F-requires` what F asks of its caller, `loop-holds` and `loop-again` an invariant at the start and after a round.
 Edits keep the code's shape, but for `moments/terms_to_the_nearest`, where a half has to be added.
 
@@ -47,6 +47,7 @@ DIFFER = re.compile(r"""the\ two\ types\ (?:(?:differ\ only|first\ differ)\ wher
                         (?:,\ (?:right\ after\s+`[^`]*`|at\ the\ start))?,?\s+and(?:\ the\ other\ has)?\s+`([^`]*)`\s+\(found\)""", re.X)
 # Names that Rattle makes for places in the code, what antt left open, and an operator without its numbers: these differ where the shape does.
 SHAPE = re.compile(r"\b(?:Lts|Tie|Reads|lts|tie|reads)\.|\?\w|^\(?(?:[\w·-]+\.)*_[^\s_]+_\)?$")
+COMPUTED = "computed as far as they go"
 NOT_COMPUTED = "what the two types compute to is not shown"
 
 
@@ -68,7 +69,8 @@ def reason(message):
         return ""
     path = re.fullmatch(r"Path .* (\([^()]*\)) (\([^()]*\))", found[-1][0])
     left, right = map(short, path.groups() if path else found[-1])
-    return f"`{left}` is not `{right}`" if left and right else "the two sides differ"
+    printed = "" if COMPUTED in message else ", as printed"
+    return (f"`{left}` is not `{right}`" if left and right else "the two sides differ") + printed
 
 
 Refusal = namedtuple("Refusal", "place name message")
@@ -121,6 +123,8 @@ SAMPLES = [
      ("f", "returns", "")),
     ("T/specs/Law.antt:9:1: error: `law`: as printed, the two types differ only where one has `9` (expected), right after `f ≡`, and the other has `f` (found)\n"
      "  what the two types compute to is not shown, because one could not be computed (found: computing it took more than 200000 steps)\n", ("Law", "law", "")),
+    ("T/specs/Law.antt:9:1: error: `law`: as printed, the two types differ only where one has `g 9` (expected), right after `f ≡`, and the other has `f` (found)\n",
+     ("Law", "law", "`g 9` is not `f`, as printed")),
     ("T/specs/Law.antt:9:1: error: expected `×` after the Σ binder, found `:`\n", ("Law", "", "")),
     ("T/src/lib.rt:9:1: error[unknown-name]: cannot find `h` in this scope\n", ("lib", "", "")),
 ]

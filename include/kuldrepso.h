@@ -1,7 +1,7 @@
 /* Moments of the accumulated reward of a repairable system, and their truncation level: document 01's
- * calculation, its last division rounded as document 02, S-1, has it, for C. `./build kuldrepso` makes the library,
- * libkuldrepso.a (x86-64), and prints its path; it needs nothing but memcpy and memset. Its contract is proved:
- * crates/kuldrepso/src/lib.rt. */
+ * calculation, its last division rounded to the nearest tick (document 02, S-1), for C. `./build kuldrepso` makes
+ * the library, libkuldrepso.a (x86-64), and prints its path; it needs nothing but memcpy and memset. Its contract is
+ * proved: crates/kuldrepso/src/lib.rt. */
 #ifndef KULDREPSO_H
 #define KULDREPSO_H
 
@@ -35,8 +35,8 @@ extern "C" {
  * Answers
  *   N                       the level, from 1 to 563, where no row of document 01's table "What stops a file" holds.
  *                           Then cells[(i - 1) * R + (r - 1)] holds moment r of state i in ticks, i from 1 to M and
- *                           r from 1 to R, where M and R are bytes 3 and 4 of the file: to the nearest tick, a half
- *                           going up. Every cell from M * R on is as it was.
+ *                           r from 1 to R, where M and R are bytes 3 and 4 of the file. Every cell from M * R on is
+ *                           as it was.
  *   KULDREPSO_REFUSED + k   where row k, from 1 to 13, is the first that holds. Every cell is as it was.
  *
  * Each slice is a pointer and a count of its elements, not of bytes. Neither pointer may be null, also where its
