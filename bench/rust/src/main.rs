@@ -12,7 +12,7 @@ mod independent;
 #[path = "../../../tests/rust/src/library.rs"]
 mod library;
 
-/// The helper by recursion, as crates/muldiv has it.
+/// The helper as crates/muldiv has it.
 mod same {
     mod muldiv {
         include!("muldiv.rs");

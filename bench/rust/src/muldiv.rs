@@ -1,4 +1,4 @@
-// crates/muldiv in Rust: multiply, then divide, by recursion on b halved.
+// crates/muldiv in Rust: multiply, then divide, by a loop over the bits of b.
 
 const LIMIT: u64 = 1 << 62;
 const LARGEST: u64 = 0xffff_ffff_ffff_ffff;
@@ -8,11 +8,6 @@ pub enum Quotient {
     Nothing,
 }
 
-struct Parts {
-    quotient: u64,
-    remainder: u64,
-}
-
 pub fn mul_div(a: u64, b: u64, c: u64) -> Quotient {
     if c == 0 {
         return Quotient::Nothing;
@@ -20,8 +15,8 @@ pub fn mul_div(a: u64, b: u64, c: u64) -> Quotient {
     if a >= LIMIT || b >= LIMIT || c >= LIMIT {
         return Quotient::Nothing;
     }
-    let low = multiplied(a % c, b, c);
-    total(a / c, b, low.quotient)
+    let low = quotient_by_bits(a % c, b, c);
+    total(a / c, b, low)
 }
 
 pub fn scaled(a: u64, b: u64, c: u64) -> u64 {
@@ -41,34 +36,43 @@ fn total(high: u64, b: u64, low: u64) -> Quotient {
     Quotient::Of(high * b + low)
 }
 
-fn multiplied(a: u64, b: u64, c: u64) -> Parts {
-    if b == 0 {
-        return Parts { quotient: 0, remainder: 0 };
+fn quotient_by_bits(a: u64, b: u64, c: u64) -> u64 {
+    let mut quotient: u64 = 0;
+    let mut remainder: u64 = 0;
+    let mut left = bit_count(b);
+    while left > 0 {
+        left -= 1;
+        let sum = 2 * remainder + a * bit(b, left);
+        quotient = 2 * quotient + times(sum, c);
+        remainder = rest(sum, c);
     }
-    let half = multiplied(a, b / 2, c);
-    let more = once_if_odd(a, b);
-    taken_out(2 * half.quotient, 2 * half.remainder + more, c)
+    quotient
 }
 
-fn once_if_odd(a: u64, b: u64) -> u64 {
-    if b % 2 == 1 {
-        a
-    } else {
+fn bit_count(b: u64) -> u32 {
+    64 - u64::leading_zeros(b)
+}
+
+fn bit(b: u64, k: u32) -> u64 {
+    (b >> k) % 2
+}
+
+fn times(sum: u64, c: u64) -> u64 {
+    if sum < c {
         0
-    }
-}
-
-fn taken_out(quotient: u64, remainder: u64, c: u64) -> Parts {
-    let times = held(remainder, c);
-    Parts { quotient: quotient + times, remainder: remainder - times * c }
-}
-
-fn held(remainder: u64, c: u64) -> u64 {
-    if remainder < c {
-        0
-    } else if remainder - c < c {
+    } else if sum - c < c {
         1
     } else {
         2
+    }
+}
+
+fn rest(sum: u64, c: u64) -> u64 {
+    if sum < c {
+        sum
+    } else if sum - c < c {
+        sum - c
+    } else {
+        sum - c - c
     }
 }

@@ -1,24 +1,47 @@
 -- The arithmetic under the proofs of the functions, over plain numbers. Assumes nothing.
-use mathlib.Core.Path.{_≡_, ap}
+use mathlib.Core.Path.{_≡_, sym, ap, _∙_}
 use Prim.Native.Nat.{ℕ, _+_, _-_, _*_, _/_, _%_, _^_, _<_, _≤_}
 use native.Mathlib.Nat.{mul-le-mul-left, mul-le-mul-right, le-of-mul-le-mul-right}
 use native.Mathlib.Omega.{arith}
-use Rattle.laws.specs.Rounding.{quotient-low, quotient-high, quotient-unique, quotient-remainder}
-use Rattle.muldiv.specs.MulDiv.{Divides}
+use lib.Pow.{shr-shr, shr-le}
+use Rattle.laws.specs.Rounding.{quotient-low, quotient-high, quotient-unique, quotient-remainder, remainder-below}
+use Rattle.muldiv.specs.MulDiv.{Walked}
 
--- a × b, by half of b: twice a × (b / 2), with a once more where b is odd
-pub halved : (a b : ℕ) → 2 * (a * (b / 2)) + a * (b % 2) ≡ a * b
-halved a b = omega (arith, ap (λ (n : ℕ). a * n) (quotient-remainder b 2))
+-- a × n, by n without its last bit: doubled, with a once more where that bit is set
+pub doubled : (a n : ℕ) → 2 * (a * (n / 2)) + a * (n % 2) ≡ a * n
+doubled a n = omega (arith, ap (λ (k : ℕ). a * k) (quotient-remainder n 2))
 
-pub at-most-once : (a b : ℕ) → a * (b % 2) ≤ a
-at-most-once a b =
-    let bit : b % 2 ≤ 1 = omega arith in
+pub at-most-once : (a n : ℕ) → a * (n % 2) ≤ a
+at-most-once a n =
+    let bit : n % 2 ≤ 1 = omega arith in
     omega (arith, mul-le-mul-left a bit)
 
--- n times what is below c holds c at most n times
-pub within : {a n c q r : ℕ} → Divides (a * n) c q r → a < c → q ≤ n
-within {a} {n} {c} {q} {r} d small =
-    le-of-mul-le-mul-right {k = c} (omega (arith, mul-le-mul-right n small)) (omega arith)
+-- what is below c, times n, holds c at most n times; the walk's n is at most b
+pub walked-at-most : (a b c left q r : ℕ) → Walked a b c left q r → a < c → q ≤ b
+walked-at-most a b c left q r walked small =
+    let n : ℕ = b / 2 ^ left in
+    let most : q ≤ n = le-of-mul-le-mul-right {k = c} (omega (arith, mul-le-mul-right n small)) (omega arith) in
+    omega (arith, shr-le b left)
+
+-- the walk's start: b is below 2 ^ n, so that no bit stands above its n lowest
+pub walk-starts : (a b c n : ℕ) → b < 2 ^ n → a < c → Walked a b c n 0 0
+walk-starts a b c n all small =
+    let none : b / 2 ^ n ≡ 0 = quotient-unique b (2 ^ n) 0 b all (omega arith) in
+    omega (arith, ap (λ (k : ℕ). a * k) none)
+
+-- one bit more, bit left - 1: what is left is doubled, with a once more where the bit is set, and c goes `times` into that
+pub walk-goes-on : (a b c left q r sum times rest : ℕ) → Walked a b c left q r → 0 < left → 0 < c → times ≡ sum / c → rest ≡ sum % c → sum ≡ 2 * r + a * (b / 2 ^ (left - 1) % 2) → Walked a b c (left - 1) (2 * q + times) rest
+walk-goes-on a b c left q r sum times rest walked some pos whole part made =
+    let n : ℕ = b / 2 ^ (left - 1) in
+    let here : left - 1 + 1 ≡ left = omega arith in
+    let before : a * (n / 2) ≡ a * (b / 2 ^ left) = ap (λ (k : ℕ). a * k) (shr-shr b (left - 1) 1 ∙ ap (λ (k : ℕ). b / 2 ^ k) here) in
+    omega (arith, doubled a n, quotient-remainder sum c, remainder-below sum c pos, ap (λ (k : ℕ). k * c) whole)
+
+-- the walk's end: no bit is still to come
+pub walk-ends : (a b c q r : ℕ) → Walked a b c 0 q r → q ≡ a * b / c
+walk-ends a b c q r walked =
+    let all : a * (b / 1) ≡ a * b = ap (λ (n : ℕ). a * n) (omega arith) in
+    sym (quotient-unique (a * b) c q r (walked .rest) (omega arith))
 
 -- what high times b and low come to, by the number of times that high goes into the room above low
 pub has-room : (high b low : ℕ) → low < 2 ^ 64 → b ≤ (2 ^ 64 - 1 - low) / high → high * b + low < 2 ^ 64
@@ -30,7 +53,8 @@ no-room high b low fits pos h =
     omega (arith, mul-le-mul-right high h, quotient-high (2 ^ 64 - 1 - low) high pos)
 
 -- a × b over c, from a = (a / c) × c + a % c
-pub joined : (a b c q r : ℕ) → Divides (a % c * b) c q r → a * b / c ≡ a / c * b + q
-joined a b c q r d =
-    quotient-unique (a * b) c (a / c * b + q) r (d .rest)
-    (omega (arith, ap (λ (n : ℕ). n * b) (quotient-remainder a c)))
+pub joined : (a b c q : ℕ) → 0 < c → q ≡ a % c * b / c → a * b / c ≡ a / c * b + q
+joined a b c q pos is-low =
+    let low : ℕ = a % c * b in
+    quotient-unique (a * b) c (a / c * b + q) (low % c) (remainder-below low c pos)
+    (omega (arith, ap (λ (n : ℕ). n * b) (quotient-remainder a c), quotient-remainder low c, ap (λ (n : ℕ). n * c) is-low))

@@ -1,4 +1,4 @@
--- What muldiv's contracts cite: document 01, "Multiply, then divide". Assumes nothing: these are definitions.
+-- What muldiv's contracts cite, and what its loop keeps: document 01, "Multiply, then divide", with document 02, S-2. Assumes nothing: these are definitions.
 use mathlib.Core.Path.{_≡_}
 use mathlib.Core.Bool.{Bool, true, false}
 use Prim.Native.Nat.{ℕ, _+_, _*_, _/_, _^_, _<_}
@@ -24,6 +24,10 @@ quotientOf a b c =
 pub record Divides (n c q r : ℕ) : Type 0 where
   pub whole : q * c + r ≡ n
   pub rest : r < c
+
+-- the loop over the bits of b, with the `left` lowest still to come: a × (b / 2 ^ left), the bits so far, by c is q, and r is left over
+abbrev pub Walked : ℕ → ℕ → ℕ → ℕ → ℕ → ℕ → Type 0
+Walked a b c left q r = Divides (a * (b / 2 ^ left)) c q r
 
 -- a × b over c exists and fits: what a caller of `scaled` shows
 pub record Scalable (a b c : ℕ) : Type 0 where

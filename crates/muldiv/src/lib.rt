@@ -1,11 +1,11 @@
 // The quotient of a * b by c, rounded down, where a * b may pass 64 bits.
 //
-// Nothing here is wider than a u64. The product is never formed: b is halved until it is 0, and on
-// the way back each level doubles what it has and takes c out of the remainder. So that this
-// quotient stays small, a is first split into (a / c) * c + a % c, and only a % c goes that way.
+// Nothing here is wider than a u64. The product is never formed: a loop goes through the bits of b from
+// the highest down, doubles what it has at each, adds a where the bit is set, and takes c out. So that
+// this quotient stays small, a is first split into (a / c) * c + a % c, and only a % c goes that way.
 ghost use mathlib.Core.Path.{_≡_};
 ghost use Prim.Native.Nat.{_+_, _*_, _/_, _%_, _^_, _<_, _≤_};
-ghost use Rattle.muldiv.specs.MulDiv.{quotientOf, fitted, Divides, Scalable};
+ghost use Rattle.muldiv.specs.MulDiv.{quotientOf, fitted, Scalable};
 
 // Each of a, b and c stays below this.
 const LIMIT: u64 = 1 << 62;
@@ -19,14 +19,8 @@ pub enum Quotient {
     Nothing,
 }
 
-// A number by a divisor c: quotient * c + remainder.
-struct Parts {
-    quotient: u64,
-    remainder: u64,
-}
-
 // a * b / c. Nothing where c is 0, where a, b or c is 2^62 or more, or where the quotient is 2^64
-// or more, and nowhere else. The depth is the number of bits of b: hand over the smaller factor as b.
+// or more, and nowhere else. There is one turn for each bit of b: hand over the smaller factor as b.
 pub fn mul_div(a: u64, b: u64, c: u64) -> Quotient
     ensures { λ r. ⌜ r ≡ quotientOf a b c ⌝ }
 {
@@ -36,8 +30,8 @@ pub fn mul_div(a: u64, b: u64, c: u64) -> Quotient
     if a >= LIMIT || b >= LIMIT || c >= LIMIT {
         return Quotient::Nothing;
     }
-    let low = multiplied(a % c, b, c);
-    total(a / c, b, low.quotient)
+    let low = quotient_by_bits(a % c, b, c);
+    total(a / c, b, low)
 }
 
 // The same quotient, for a caller who knows that there is one: the Nothing arm is never taken.
@@ -64,51 +58,67 @@ fn total(high: u64, b: u64, low: u64) -> Quotient
     Quotient::Of(high * b + low)
 }
 
-// a * b by c, for a below c: by half of b first, then doubled, with a once more where b is odd.
-fn multiplied(a: u64, b: u64, c: u64) -> Parts
+// a * b / c, for a below c. After each bit of b the two numbers are quotient and remainder, by c, of
+// a times the bits so far. For 6 * 5 by 7, where 5 has the bits 1, 0 and 1:
+//
+//     bit 1: sum  6, quotient 0, remainder 6
+//     bit 0: sum 12, quotient 1, remainder 5
+//     bit 1: sum 16, quotient 4, remainder 2      and 30 is 4 * 7 + 2
+fn quotient_by_bits(a: u64, b: u64, c: u64) -> u64
     requires { ⌜ (a < c) × (b < 2 ^ 62) × (c < 2 ^ 62) ⌝ }
-    ensures { λ p. ⌜ Divides (a * b) c (p .quotient) (p .remainder) ⌝ }
+    ensures { λ q. ⌜ q ≡ a * b / c ⌝ }
 {
-    if b == 0 {
-        return Parts {
-            quotient: 0,
-            remainder: 0,
-        };
+    let mut quotient: u64 = 0;
+    let mut remainder: u64 = 0;
+    let mut left = bit_count(b);
+    while left > 0 {
+        left -= 1;
+        let sum = 2 * remainder + a * bit(b, left);
+        quotient = 2 * quotient + times(sum, c);
+        remainder = rest(sum, c);
     }
-    let half = multiplied(a, b / 2, c);
-    let more = once_if_odd(a, b);
-    taken_out(2 * half.quotient, 2 * half.remainder + more, c)
+    quotient
 }
 
-// a where b is odd, else 0.
-fn once_if_odd(a: u64, b: u64) -> u64
-    ensures { λ r. ⌜ r ≡ a * (b % 2) ⌝ }
+// How many bits b has: the least n with b below 2^n.
+fn bit_count(b: u64) -> u32
+    ensures { λ n. ⌜ (b < 2 ^ n) × (2 ^ n ≤ 2 * b + 1) × (n ≤ 64) ⌝ }
 {
-    if b % 2 == 1 { a } else { 0 }
+    64 - u64::leading_zeros(b)
 }
 
-// The same number, with c taken out of a remainder that holds it at most twice.
-fn taken_out(quotient: u64, remainder: u64, c: u64) -> Parts
-    requires { ⌜ (quotient + 2 < 2 ^ 64) × (remainder < 3 * c) ⌝ }
-    ensures { λ p. ⌜ Divides (quotient * c + remainder) c (p .quotient) (p .remainder) ⌝ }
+// Bit k of b, 1 where it is set, counted from the lowest, which is bit 0.
+fn bit(b: u64, k: u32) -> u64
+    requires { ⌜ k < 64 ⌝ }
+    ensures { λ r. ⌜ r ≡ b / 2 ^ k % 2 ⌝ }
 {
-    let times = held(remainder, c);
-    Parts {
-        quotient: quotient + times,
-        remainder: remainder - times * c,
-    }
+    (b >> k) % 2
 }
 
-// How often c goes into the remainder. As a number, so that the compiled recursion has no branch here.
-fn held(remainder: u64, c: u64) -> u64
-    requires { ⌜ remainder < 3 * c ⌝ }
-    ensures { λ k. ⌜ (k * c ≤ remainder) × (remainder < k * c + c) × (k < 3) ⌝ }
+// sum / c, for a sum that holds c at most twice. Comparisons are quicker than a division.
+fn times(sum: u64, c: u64) -> u64
+    requires { ⌜ sum < 3 * c ⌝ }
+    ensures { λ k. ⌜ (k ≡ sum / c) × (k < 3) ⌝ }
 {
-    if remainder < c {
+    if sum < c {
         0
-    } else if remainder - c < c {
+    } else if sum - c < c {
         1
     } else {
         2
+    }
+}
+
+// sum % c, for a sum that holds c at most twice.
+fn rest(sum: u64, c: u64) -> u64
+    requires { ⌜ sum < 3 * c ⌝ }
+    ensures { λ r. ⌜ r ≡ sum % c ⌝ }
+{
+    if sum < c {
+        sum
+    } else if sum - c < c {
+        sum - c
+    } else {
+        sum - c - c
     }
 }

@@ -25,11 +25,11 @@ returns-2 c =
     (λ w. sym (large-c (args .a) (args .b) (args .c) (omega (arith, leb-true)))))
     (c .if2 .came)
 
-rem-multiplied : tie.Need-rem-multiplied
-rem-multiplied c = search needs
+rem-quotient-by-bits : tie.Need-rem-quotient-by-bits
+rem-quotient-by-bits c = search needs
 
-multiplied-requires : tie.Need-multiplied-requires
-multiplied-requires c κs =
+quotient-by-bits-requires : tie.Need-quotient-by-bits-requires
+quotient-by-bits-requires c κs =
     let args = c .before .before .before .before .args in
     omega (arith, leb-false, remainder-below (args .a) (args .c) (omega arith))
 
@@ -43,9 +43,9 @@ total-requires c κs = search needs
 returns-3 : tie.Need-returns-3
 returns-3 c =
     let args = c .before .before .before .before .before .before .args in
-    let low = c .before .multiplied in
+    let low = c .before .quotient-by-bits in
     c .total .ensures
-    ∙ ap fitted (sym (joined (args .a) (args .b) (args .c) (low .result .quotient) (low .result .remainder) (low .ensures)))
+    ∙ ap fitted (sym (joined (args .a) (args .b) (args .c) (low .result) (omega arith) (low .ensures)))
     ∙ sym
     (in-range (args .a) (args .b) (args .c) (omega arith) (omega arith) (omega (arith, leb-false)) (omega (arith, leb-false)))
 
@@ -55,8 +55,8 @@ mul-div-spec =
     (tie.spec
     returns
     returns-2
-    rem-multiplied
-    multiplied-requires
+    rem-quotient-by-bits
+    quotient-by-bits-requires
     div-total
     total-requires
     returns-3)

@@ -1,0 +1,75 @@
+-- `muldiv::quotient_by_bits` meets its contract. Assumes nothing.
+-- The loop's invariant: quotient and remainder of a times the bits of b that have been walked. The measure is the number of those still to come.
+use mathlib.Core.Path.{_≡_, ap}
+use Prim.Native.Nat.{ℕ, _+_, _-_, _*_, _/_, _^_, _<_, _≤_}
+use native.Mathlib.Omega.{arith}
+use Rattle.muldiv.specs.MulDiv.{Walked}
+use Rattle.muldiv.proofs.Arithmetic.{walk-starts, walk-goes-on, walk-ends, at-most-once, walked-at-most}
+use Rattle.muldiv.proofs.quotient_by_bits.Statement.{statement}
+use Rattle.muldiv.proofs.quotient_by_bits.Tie as tie
+
+abbrev Inv-loop : tie.InvT-loop
+Inv-loop a b c quotient₀ remainder₀ left₀ quotient remainder left = (left ≤ 64) × Walked a b c left quotient remainder
+
+abbrev μ-loop : tie.MeasureT-loop
+μ-loop a b c quotient₀ remainder₀ left₀ quotient remainder left = left
+
+loop-holds : tie.Need-loop-holds Inv-loop μ-loop
+loop-holds c =
+    let args = c .before .args in
+    let count = c .bit-count in
+    (omega arith, walk-starts (args .a) (args .b) (args .c) (count .result) (omega arith) (omega arith))
+
+-- the sum is below 3 times c
+few : (c : tie.After-bit Inv-loop μ-loop) → let args = c .before .before .before .before .args in 2 * c .before .before .loop .remainder + args .a * c .bit .result < 3 * args .c
+few c =
+    let args = c .before .before .before .before .args in
+    let loop = c .before .before .loop in
+    let once = at-most-once (args .a) (args .b / 2 ^ (loop .left - 1)) in
+    omega (arith, ap (λ (n : ℕ). args .a * n) (c .bit .ensures))
+
+-- the quotient is at most b
+small : (c : tie.In-loop Inv-loop μ-loop) → c .before .loop .quotient ≤ c .before .before .before .args .b
+small c =
+    let start = c .before .before .before in
+    let args = start .args in
+    let loop = c .before .loop in
+    walked-at-most (args .a) (args .b) (args .c) (loop .left) (loop .quotient) (loop .remainder) (loop .inv .1) (start .pre .0)
+
+loop-again : tie.Need-loop-again Inv-loop μ-loop
+loop-again c =
+    let start = c .before .before .before .before .before .before in
+    let args = start .args in
+    let loop = c .before .before .before .before .loop in
+    let bit = c .before .before .bit in (
+      omega arith,
+      omega (arith, walk-goes-on (args .a) (args .b) (args .c) (loop .left) (loop .quotient) (loop .remainder) _ (c .before .times .result) (c .rest .result) (loop .inv .1) (omega arith) (omega arith) (c .before .times .ensures .0) (c .rest .ensures) (omega (arith, ap (λ (n : ℕ). args .a * n) (bit .ensures)))),
+    )
+
+returns : tie.Need-returns Inv-loop μ-loop
+returns c =
+    let loop = c .before .loop in
+    let args = c .before .before .before .args in
+    let end : loop .left ≡ 0 = omega arith in
+    walk-ends (args .a) (args .b) (args .c) (loop .quotient) (loop .remainder) (rw end at (loop .inv .1))
+
+pub quotient-by-bits-spec : {M : Type 1} → statement M
+quotient-by-bits-spec =
+    tie.close
+    (tie.spec
+    Inv-loop
+    μ-loop
+    (λ c κs. omega arith)
+    loop-holds
+    (λ c. omega arith)
+    (λ c. omega arith)
+    (λ c κs. omega arith)
+    (λ c. omega (arith, few c))
+    (λ c. omega (arith, few c))
+    (λ c. omega (arith, small (c .before)))
+    (λ c κs. omega (arith, few c))
+    (λ c. omega (arith, small (c .before .before)))
+    (λ c κs. omega (arith, few (c .before)))
+    (λ c. omega arith)
+    loop-again
+    returns)
