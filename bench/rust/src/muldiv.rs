@@ -60,7 +60,7 @@ fn bit(b: u64, k: u32) -> u64 {
 fn times(sum: u64, c: u64) -> u64 {
     if sum < c {
         0
-    } else if sum - c < c {
+    } else if sum < 2 * c {
         1
     } else {
         2
@@ -70,9 +70,9 @@ fn times(sum: u64, c: u64) -> u64 {
 fn rest(sum: u64, c: u64) -> u64 {
     if sum < c {
         sum
-    } else if sum - c < c {
+    } else if sum < 2 * c {
         sum - c
     } else {
-        sum - c - c
+        sum - 2 * c
     }
 }

@@ -97,12 +97,12 @@ fn bit(b: u64, k: u32) -> u64
 
 // sum / c, for a sum that holds c at most twice. Comparisons are quicker than a division.
 fn times(sum: u64, c: u64) -> u64
-    requires { ⌜ sum < 3 * c ⌝ }
+    requires { ⌜ (sum < 3 * c) × (c < 2 ^ 62) ⌝ }
     ensures { λ k. ⌜ (k ≡ sum / c) × (k < 3) ⌝ }
 {
     if sum < c {
         0
-    } else if sum - c < c {
+    } else if sum < 2 * c {
         1
     } else {
         2
@@ -111,14 +111,14 @@ fn times(sum: u64, c: u64) -> u64
 
 // sum % c, for a sum that holds c at most twice.
 fn rest(sum: u64, c: u64) -> u64
-    requires { ⌜ sum < 3 * c ⌝ }
+    requires { ⌜ (sum < 3 * c) × (c < 2 ^ 62) ⌝ }
     ensures { λ r. ⌜ r ≡ sum % c ⌝ }
 {
     if sum < c {
         sum
-    } else if sum - c < c {
+    } else if sum < 2 * c {
         sum - c
     } else {
-        sum - c - c
+        sum - 2 * c
     }
 }
