@@ -59,7 +59,7 @@ fn total(high: u64, b: u64, low: u64) -> Quotient
 }
 
 // a * b / c, for a below c. After each bit of b the two numbers are quotient and remainder, by c, of
-// a times the bits so far. For 6 * 5 by 7, where 5 has the bits 1, 0 and 1:
+// a times the bits so far (`Walked` in specs/). For 6 * 5 by 7, where 5 has the bits 1, 0 and 1:
 //
 //     bit 1: sum  6, quotient 0, remainder 6
 //     bit 0: sum 12, quotient 1, remainder 5
