@@ -42,7 +42,7 @@ fn quotient_by_bits(a: u64, b: u64, c: u64) -> u64 {
     let mut left = bit_count(b);
     while left > 0 {
         left -= 1;
-        let sum = 2 * remainder + a * bit(b, left);
+        let sum = 2 * remainder + once_if_set(a, b, left);
         quotient = 2 * quotient + times(sum, c);
         remainder = rest(sum, c);
     }
@@ -53,8 +53,12 @@ fn bit_count(b: u64) -> u32 {
     64 - u64::leading_zeros(b)
 }
 
-fn bit(b: u64, k: u32) -> u64 {
-    (b >> k) % 2
+fn once_if_set(a: u64, b: u64, k: u32) -> u64 {
+    if (b >> k) % 2 == 1 {
+        a
+    } else {
+        0
+    }
 }
 
 fn times(sum: u64, c: u64) -> u64 {

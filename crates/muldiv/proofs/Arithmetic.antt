@@ -33,13 +33,13 @@ walk-starts a b c n all small =
     let none : b / 2 ^ n ≡ 0 = quotient-unique b (2 ^ n) 0 b all (omega arith) in
     omega (arith, ap (λ (k : ℕ). a * k) none)
 
--- one bit more, bit left - 1: what is left is doubled, with a once more where the bit is set, and c goes `times` into that
-pub walk-goes-on : (a b c left q r sum times rest : ℕ) → Walked a b c left q r → 0 < left → 0 < c → times ≡ sum / c → rest ≡ sum % c → sum ≡ 2 * r + a * (b / 2 ^ (left - 1) % 2) → Walked a b c (left - 1) (2 * q + times) rest
-walk-goes-on a b c left q r sum times rest walked some pos whole part made =
+-- one bit more, bit left - 1: what was left over is doubled, with a once more where the bit is set, and c goes `times` into that sum
+pub walk-goes-on : (a b c left q r sum times rest : ℕ) → Walked a b c left q r → times ≡ sum / c → rest ≡ sum % c → sum ≡ 2 * r + a * (b / 2 ^ (left - 1) % 2) → 0 < left → 0 < c → Walked a b c (left - 1) (2 * q + times) rest
+walk-goes-on a b c left q r sum times rest walked is-times is-rest is-sum some pos =
     let n : ℕ = b / 2 ^ (left - 1) in
     let here : left - 1 + 1 ≡ left = omega arith in
     let before : a * (n / 2) ≡ a * (b / 2 ^ left) = ap (λ (k : ℕ). a * k) (shr-shr b (left - 1) 1 ∙ ap (λ (k : ℕ). b / 2 ^ k) here) in
-    omega (arith, doubled a n, quotient-remainder sum c, remainder-below sum c pos, ap (λ (k : ℕ). k * c) whole)
+    omega (arith, doubled a n, quotient-remainder sum c, remainder-below sum c pos, ap (λ (k : ℕ). k * c) is-times)
 
 -- the walk's end: no bit is still to come
 pub walk-ends : (a b c q r : ℕ) → Walked a b c 0 q r → q ≡ a * b / c

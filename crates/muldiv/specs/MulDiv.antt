@@ -1,7 +1,7 @@
 -- What muldiv's contracts cite, and what its loop keeps: document 01, "Multiply, then divide", with document 02, S-2. Assumes nothing: these are definitions.
 use mathlib.Core.Path.{_≡_}
 use mathlib.Core.Bool.{Bool, true, false}
-use Prim.Native.Nat.{ℕ, _+_, _*_, _/_, _^_, _<_}
+use Prim.Native.Nat.{ℕ, _+_, _*_, _/_, _^_, _<_, _≤_}
 use lib.Dec.{leb, eqb}
 use Rattle.muldiv.specs.declared.Quotient.{Quotient}
 use Rattle.muldiv.specs.declared.Quotient.the-variants.{Of, Nothing}
@@ -24,6 +24,12 @@ quotientOf a b c =
 pub record Divides (n c q r : ℕ) : Type 0 where
   pub whole : q * c + r ≡ n
   pub rest : r < c
+
+-- b has n bits: n is the least number with b below 2 ^ n
+pub record BitCount (b n : ℕ) : Type 0 where
+  pub above : b < 2 ^ n
+  pub least : 2 ^ n ≤ 2 * b + 1
+  pub most : n ≤ 64
 
 -- the loop over the bits of b, with the `left` lowest still to come: a × (b / 2 ^ left), the bits so far, by c is q, and r is left over
 abbrev pub Walked : ℕ → ℕ → ℕ → ℕ → ℕ → ℕ → Type 0

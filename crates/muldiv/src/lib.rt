@@ -5,7 +5,7 @@
 // this quotient stays small, a is first split into (a / c) * c + a % c, and only a % c goes that way.
 ghost use mathlib.Core.Path.{_≡_};
 ghost use Prim.Native.Nat.{_+_, _*_, _/_, _%_, _^_, _<_, _≤_};
-ghost use Rattle.muldiv.specs.MulDiv.{quotientOf, fitted, Scalable};
+ghost use Rattle.muldiv.specs.MulDiv.{quotientOf, fitted, Scalable, BitCount};
 
 // Each of a, b and c stays below this.
 const LIMIT: u64 = 1 << 62;
@@ -73,26 +73,26 @@ fn quotient_by_bits(a: u64, b: u64, c: u64) -> u64
     let mut left = bit_count(b);
     while left > 0 {
         left -= 1;
-        let sum = 2 * remainder + a * bit(b, left);
+        let sum = 2 * remainder + once_if_set(a, b, left);
         quotient = 2 * quotient + times(sum, c);
         remainder = rest(sum, c);
     }
     quotient
 }
 
-// How many bits b has: the least n with b below 2^n.
+// How many bits b has, from its highest set one down.
 fn bit_count(b: u64) -> u32
-    ensures { λ n. ⌜ (b < 2 ^ n) × (2 ^ n ≤ 2 * b + 1) × (n ≤ 64) ⌝ }
+    ensures { λ n. ⌜ BitCount b n ⌝ }
 {
     64 - u64::leading_zeros(b)
 }
 
-// Bit k of b, 1 where it is set, counted from the lowest, which is bit 0.
-fn bit(b: u64, k: u32) -> u64
+// a where bit k of b is set, else 0. The lowest bit is bit 0.
+fn once_if_set(a: u64, b: u64, k: u32) -> u64
     requires { ⌜ k < 64 ⌝ }
-    ensures { λ r. ⌜ r ≡ b / 2 ^ k % 2 ⌝ }
+    ensures { λ r. ⌜ r ≡ a * (b / 2 ^ k % 2) ⌝ }
 {
-    (b >> k) % 2
+    if (b >> k) % 2 == 1 { a } else { 0 }
 }
 
 // sum / c, for a sum that holds c at most twice. Comparisons are quicker than a division.

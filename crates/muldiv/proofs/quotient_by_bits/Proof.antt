@@ -1,7 +1,7 @@
 -- `muldiv::quotient_by_bits` meets its contract. Assumes nothing.
 -- The loop's invariant: quotient and remainder of a times the bits of b that have been walked. The measure is the number of those still to come.
-use mathlib.Core.Path.{_≡_, ap}
-use Prim.Native.Nat.{ℕ, _+_, _-_, _*_, _/_, _^_, _<_, _≤_}
+use mathlib.Core.Path.{_≡_}
+use Prim.Native.Nat.{_+_, _-_, _*_, _/_, _^_, _<_, _≤_}
 use native.Mathlib.Omega.{arith}
 use Rattle.muldiv.specs.MulDiv.{Walked}
 use Rattle.muldiv.proofs.Arithmetic.{walk-starts, walk-goes-on, walk-ends, at-most-once, walked-at-most}
@@ -17,16 +17,13 @@ abbrev μ-loop : tie.MeasureT-loop
 loop-holds : tie.Need-loop-holds Inv-loop μ-loop
 loop-holds c =
     let args = c .before .args in
-    let count = c .bit-count in
-    (omega arith, walk-starts (args .a) (args .b) (args .c) (count .result) (omega arith) (omega arith))
+    (omega arith, walk-starts (args .a) (args .b) (args .c) (c .bit-count .result) (omega arith) (omega arith))
 
--- the sum is below 3 times c
-few : (c : tie.After-bit Inv-loop μ-loop) → let args = c .before .before .before .before .args in 2 * c .before .before .loop .remainder + args .a * c .bit .result < 3 * args .c
+-- a doubled remainder with a once more is below 3 times c
+few : (c : tie.After-once-if-set Inv-loop μ-loop) → 2 * c .before .before .loop .remainder + c .once-if-set .result < 3 * c .before .before .before .before .args .c
 few c =
     let args = c .before .before .before .before .args in
-    let loop = c .before .before .loop in
-    let once = at-most-once (args .a) (args .b / 2 ^ (loop .left - 1)) in
-    omega (arith, ap (λ (n : ℕ). args .a * n) (c .bit .ensures))
+    omega (arith, at-most-once (args .a) (args .b / 2 ^ (c .before .before .loop .left - 1)))
 
 -- the quotient is at most b
 small : (c : tie.In-loop Inv-loop μ-loop) → c .before .loop .quotient ≤ c .before .before .before .args .b
@@ -38,13 +35,11 @@ small c =
 
 loop-again : tie.Need-loop-again Inv-loop μ-loop
 loop-again c =
-    let start = c .before .before .before .before .before .before in
-    let args = start .args in
+    let args = c .before .before .before .before .before .before .args in
     let loop = c .before .before .before .before .loop in
-    let bit = c .before .before .bit in (
-      omega arith,
-      omega (arith, walk-goes-on (args .a) (args .b) (args .c) (loop .left) (loop .quotient) (loop .remainder) _ (c .before .times .result) (c .rest .result) (loop .inv .1) (omega arith) (omega arith) (c .before .times .ensures .0) (c .rest .ensures) (omega (arith, ap (λ (n : ℕ). args .a * n) (bit .ensures)))),
-    )
+    let times = c .before .times in
+    let next = walk-goes-on (args .a) (args .b) (args .c) (loop .left) (loop .quotient) (loop .remainder) _ (times .result) (c .rest .result) (loop .inv .1) (times .ensures .0) (c .rest .ensures) in
+    omega (arith, next (omega arith) (omega arith) (omega arith))
 
 returns : tie.Need-returns Inv-loop μ-loop
 returns c =
@@ -64,7 +59,6 @@ quotient-by-bits-spec =
     (λ c. omega arith)
     (λ c. omega arith)
     (λ c κs. omega arith)
-    (λ c. omega (arith, few c))
     (λ c. omega (arith, few c))
     (λ c. omega (arith, small (c .before)))
     (λ c κs. omega (arith, few c))

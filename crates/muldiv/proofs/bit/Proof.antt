@@ -1,8 +1,0 @@
--- `muldiv::bit` meets its contract. `search` would prove it with no file; this one makes the refusal of a wrong bit say where it fails.
--- Assumes nothing.
-use native.Mathlib.Omega.{arith}
-use Rattle.muldiv.proofs.bit.Statement.{statement}
-use Rattle.muldiv.proofs.bit.Tie as tie
-
-pub bit-spec : {M : Type 1} → statement M
-bit-spec = tie.close (tie.spec (λ c. omega arith) (λ c. omega arith))
