@@ -1,4 +1,9 @@
 // crates/muldiv in Rust: multiply, then divide, by a loop over the bits of b.
+//
+// Where the Rattle source has an `if` between numbers, Rust is told that the test cannot be guessed (rustc 1.88 or newer).
+// Rattle's compiler makes no branch there; rustc would, and the loop would take more than twice as long.
+
+use std::hint::select_unpredictable;
 
 const LIMIT: u64 = 1 << 62;
 const LARGEST: u64 = 0xffff_ffff_ffff_ffff;
@@ -54,29 +59,13 @@ fn bit_count(b: u64) -> u32 {
 }
 
 fn once_if_set(a: u64, b: u64, k: u32) -> u64 {
-    if (b >> k) % 2 == 1 {
-        a
-    } else {
-        0
-    }
+    select_unpredictable((b >> k) % 2 == 1, a, 0)
 }
 
 fn times(sum: u64, c: u64) -> u64 {
-    if sum < c {
-        0
-    } else if sum < 2 * c {
-        1
-    } else {
-        2
-    }
+    select_unpredictable(sum < c, 0, select_unpredictable(sum < 2 * c, 1, 2))
 }
 
 fn rest(sum: u64, c: u64) -> u64 {
-    if sum < c {
-        sum
-    } else if sum < 2 * c {
-        sum - c
-    } else {
-        sum - 2 * c
-    }
+    sum - select_unpredictable(sum < c, 0, select_unpredictable(sum < 2 * c, c, 2 * c))
 }
