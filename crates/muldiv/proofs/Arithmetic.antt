@@ -8,7 +8,7 @@ use Rattle.laws.specs.Rounding.{quotient-low, quotient-high, quotient-unique, q
 use Rattle.muldiv.specs.MulDiv.{Walked}
 
 -- a × n, by n without its last bit: doubled, with a once more where that bit is set
-pub doubled : (a n : ℕ) → 2 * (a * (n / 2)) + a * (n % 2) ≡ a * n
+doubled : (a n : ℕ) → 2 * (a * (n / 2)) + a * (n % 2) ≡ a * n
 doubled a n = omega (arith, ap (λ (k : ℕ). a * k) (quotient-remainder n 2))
 
 pub at-most-once : (a n : ℕ) → a * (n % 2) ≤ a
