@@ -1,7 +1,7 @@
 // crates/muldiv in Rust: multiply, then divide, by a loop over the bits of b.
 //
-// Where the Rattle source has an `if` between numbers, Rust is told that the test cannot be guessed (rustc 1.88 or newer).
-// Rattle's compiler makes no branch there; rustc would, and the loop would take more than twice as long.
+// `how_often` and `rest` choose by `select_unpredictable` (rustc 1.88 or newer) where the Rattle source has `if`: Rattle's
+// compiler makes no branch of that, and rustc would, which makes the heaviest file slower by half (docs/SPEED.md).
 
 use std::hint::select_unpredictable;
 
@@ -44,11 +44,11 @@ fn total(high: u64, b: u64, low: u64) -> Quotient {
 fn quotient_by_bits(a: u64, b: u64, c: u64) -> u64 {
     let mut quotient: u64 = 0;
     let mut remainder: u64 = 0;
-    let mut left = bit_count(b);
-    while left > 0 {
-        left -= 1;
-        let sum = 2 * remainder + once_if_set(a, b, left);
-        quotient = 2 * quotient + times(sum, c);
+    let mut bits_left = bit_count(b);
+    while bits_left > 0 {
+        bits_left -= 1;
+        let sum = 2 * remainder + a * bit(b, bits_left);
+        quotient = 2 * quotient + how_often(sum, c);
         remainder = rest(sum, c);
     }
     quotient
@@ -58,11 +58,11 @@ fn bit_count(b: u64) -> u32 {
     64 - u64::leading_zeros(b)
 }
 
-fn once_if_set(a: u64, b: u64, k: u32) -> u64 {
-    select_unpredictable((b >> k) % 2 == 1, a, 0)
+fn bit(b: u64, k: u32) -> u64 {
+    (b >> k) % 2
 }
 
-fn times(sum: u64, c: u64) -> u64 {
+fn how_often(sum: u64, c: u64) -> u64 {
     select_unpredictable(sum < c, 0, select_unpredictable(sum < 2 * c, 1, 2))
 }
 

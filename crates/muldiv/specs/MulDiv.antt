@@ -25,13 +25,13 @@ pub record Divides (n c q r : ℕ) : Type 0 where
   pub whole : q * c + r ≡ n
   pub rest : r < c
 
--- b, which 64 bits hold, has n bits: n is the least number with b below 2 ^ n
+-- b, which 64 bits hold, has n bits: n is the least number with b below 2 ^ n, since half of 2 ^ n is at most b, or n and b are 0
 pub record BitCount (b n : ℕ) : Type 0 where
   pub above : b < 2 ^ n
   pub least : 2 ^ n ≤ 2 * b + 1
   pub most : n ≤ 64
 
--- what the loop keeps, with the `left` lowest bits of b still to come: a times the bits before them, a × (b / 2 ^ left), by c is q, and r is left over
+-- what the loop keeps, where the `left` lowest bits of b are still to come: q and r are quotient and remainder, by c, of a times the bits so far
 abbrev pub Walked : ℕ → ℕ → ℕ → ℕ → ℕ → ℕ → Type 0
 Walked a b c left q r = Divides (a * (b / 2 ^ left)) c q r
 

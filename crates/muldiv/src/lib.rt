@@ -2,7 +2,7 @@
 //
 // Nothing here is wider than a u64. The product is never formed: a loop goes through the bits of b from
 // the highest down, doubles what it has at each, adds a where the bit is set, and takes c out. So that
-// this quotient stays small, a is first split into (a / c) * c + a % c, and only a % c goes that way.
+// its quotient stays at most b, a is first split into (a / c) * c + a % c, and only a % c goes that way.
 ghost use mathlib.Core.Path.{_≡_};
 ghost use Prim.Native.Nat.{_+_, _*_, _/_, _%_, _^_, _<_, _≤_};
 ghost use Rattle.muldiv.specs.MulDiv.{quotientOf, fitted, Scalable, BitCount};
@@ -70,11 +70,11 @@ fn quotient_by_bits(a: u64, b: u64, c: u64) -> u64
 {
     let mut quotient: u64 = 0;
     let mut remainder: u64 = 0;
-    let mut left = bit_count(b);
-    while left > 0 {
-        left -= 1;
-        let sum = 2 * remainder + once_if_set(a, b, left);
-        quotient = 2 * quotient + times(sum, c);
+    let mut bits_left = bit_count(b);
+    while bits_left > 0 {
+        bits_left -= 1;
+        let sum = 2 * remainder + a * bit(b, bits_left);
+        quotient = 2 * quotient + how_often(sum, c);
         remainder = rest(sum, c);
     }
     quotient
@@ -87,16 +87,16 @@ fn bit_count(b: u64) -> u32
     64 - u64::leading_zeros(b)
 }
 
-// a where bit k of b is set, else 0. The lowest bit is bit 0.
-fn once_if_set(a: u64, b: u64, k: u32) -> u64
+// Bit k of b: 1 where it is set, else 0. The lowest is bit 0.
+fn bit(b: u64, k: u32) -> u64
     requires { ⌜ k < 64 ⌝ }
-    ensures { λ r. ⌜ r ≡ a * (b / 2 ^ k % 2) ⌝ }
+    ensures { λ r. ⌜ r ≡ b / 2 ^ k % 2 ⌝ }
 {
-    if (b >> k) % 2 == 1 { a } else { 0 }
+    (b >> k) % 2
 }
 
-// sum / c, for a sum that holds c at most twice. Comparisons are quicker than a division.
-fn times(sum: u64, c: u64) -> u64
+// sum / c, for a sum below 3 * c. Comparisons are quicker than a division.
+fn how_often(sum: u64, c: u64) -> u64
     requires { ⌜ (sum < 3 * c) × (c < 2 ^ 62) ⌝ }
     ensures { λ k. ⌜ (k ≡ sum / c) × (k < 3) ⌝ }
 {
@@ -109,7 +109,7 @@ fn times(sum: u64, c: u64) -> u64
     }
 }
 
-// sum % c, for a sum that holds c at most twice.
+// sum % c, for a sum below 3 * c.
 fn rest(sum: u64, c: u64) -> u64
     requires { ⌜ (sum < 3 * c) × (c < 2 ^ 62) ⌝ }
     ensures { λ r. ⌜ r ≡ sum % c ⌝ }

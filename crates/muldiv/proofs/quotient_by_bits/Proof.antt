@@ -1,7 +1,7 @@
 -- `muldiv::quotient_by_bits` meets its contract. Assumes nothing.
 -- The loop's invariant: quotient and remainder of a times the bits of b that have been walked. The measure is the number of those still to come.
-use mathlib.Core.Path.{_≡_}
-use Prim.Native.Nat.{_+_, _-_, _*_, _/_, _^_, _<_, _≤_}
+use mathlib.Core.Path.{_≡_, ap}
+use Prim.Native.Nat.{ℕ, _+_, _-_, _*_, _/_, _%_, _^_, _<_, _≤_}
 use native.Mathlib.Omega.{arith}
 use Rattle.muldiv.specs.MulDiv.{Walked}
 use Rattle.muldiv.proofs.Arithmetic.{walk-starts, walk-goes-on, walk-ends, at-most-once, walked-at-most}
@@ -19,11 +19,15 @@ loop-holds c =
     let args = c .before .args in
     (omega arith, walk-starts (args .a) (args .b) (args .c) (c .bit-count .result) (omega arith) (omega arith))
 
+-- a times the bit
+added : (c : tie.After-bit Inv-loop μ-loop) → let args = c .before .before .before .before .args in args .a * c .bit .result ≡ args .a * (args .b / 2 ^ (c .before .before .loop .bits-left - 1) % 2)
+added c = ap (λ (n : ℕ). c .before .before .before .before .args .a * n) (c .bit .ensures)
+
 -- a doubled remainder with a once more is below 3 times c
-few : (c : tie.After-once-if-set Inv-loop μ-loop) → 2 * c .before .before .loop .remainder + c .once-if-set .result < 3 * c .before .before .before .before .args .c
+few : (c : tie.After-bit Inv-loop μ-loop) → let args = c .before .before .before .before .args in 2 * c .before .before .loop .remainder + args .a * c .bit .result < 3 * args .c
 few c =
     let args = c .before .before .before .before .args in
-    omega (arith, at-most-once (args .a) (args .b / 2 ^ (c .before .before .loop .left - 1)))
+    omega (arith, added c, at-most-once (args .a) (args .b / 2 ^ (c .before .before .loop .bits-left - 1)))
 
 -- the quotient is at most b
 small : (c : tie.In-loop Inv-loop μ-loop) → c .before .loop .quotient ≤ c .before .before .before .args .b
@@ -31,21 +35,21 @@ small c =
     let start = c .before .before .before in
     let args = start .args in
     let loop = c .before .loop in
-    walked-at-most (args .a) (args .b) (args .c) (loop .left) (loop .quotient) (loop .remainder) (loop .inv .1) (start .pre .0)
+    walked-at-most (args .a) (args .b) (args .c) (loop .bits-left) (loop .quotient) (loop .remainder) (loop .inv .1) (start .pre .0)
 
 loop-again : tie.Need-loop-again Inv-loop μ-loop
 loop-again c =
     let args = c .before .before .before .before .before .before .args in
     let loop = c .before .before .before .before .loop in
-    let times = c .before .times in
-    let next = walk-goes-on (args .a) (args .b) (args .c) (loop .left) (loop .quotient) (loop .remainder) _ (times .result) (c .rest .result) (loop .inv .1) (times .ensures .0) (c .rest .ensures) in
-    omega (arith, next (omega arith) (omega arith) (omega arith))
+    let times = c .before .how-often in
+    let next = walk-goes-on (args .a) (args .b) (args .c) (loop .bits-left) (loop .quotient) (loop .remainder) _ (times .result) (c .rest .result) (loop .inv .1) (times .ensures .0) (c .rest .ensures) in
+    omega (arith, next (omega (arith, added (c .before .before))) (omega arith) (omega arith))
 
 returns : tie.Need-returns Inv-loop μ-loop
 returns c =
     let loop = c .before .loop in
     let args = c .before .before .before .args in
-    let end : loop .left ≡ 0 = omega arith in
+    let end : loop .bits-left ≡ 0 = omega arith in
     walk-ends (args .a) (args .b) (args .c) (loop .quotient) (loop .remainder) (rw end at (loop .inv .1))
 
 pub quotient-by-bits-spec : {M : Type 1} → statement M
@@ -59,6 +63,7 @@ quotient-by-bits-spec =
     (λ c. omega arith)
     (λ c. omega arith)
     (λ c κs. omega arith)
+    (λ c. omega (arith, few c))
     (λ c. omega (arith, few c))
     (λ c. omega (arith, small (c .before)))
     (λ c κs. omega (arith, few c))

@@ -1,8 +1,8 @@
--- `muldiv::times` meets its contract. Assumes nothing.
+-- `muldiv::how_often` meets its contract. Assumes nothing.
 use native.Mathlib.Omega.{arith}
 use Rattle.muldiv.proofs.Arithmetic.{goes}
-use Rattle.muldiv.proofs.times.Statement.{statement}
-use Rattle.muldiv.proofs.times.Tie as tie
+use Rattle.muldiv.proofs.how_often.Statement.{statement}
+use Rattle.muldiv.proofs.how_often.Tie as tie
 
 returns : tie.Need-returns
 returns c =
@@ -19,5 +19,5 @@ returns-3 c =
     let args = c .before .before .args in
     omega (arith, goes (args .sum) (args .c) 2 (omega arith) (omega arith))
 
-pub times-spec : {M : Type 1} → statement M
-times-spec = tie.close (tie.spec (λ c. omega arith) returns returns-2 returns-3)
+pub how-often-spec : {M : Type 1} → statement M
+how-often-spec = tie.close (tie.spec (λ c. omega arith) returns returns-2 returns-3)
