@@ -16,9 +16,9 @@ at-most-once a n =
     let bit : n % 2 ≤ 1 = omega arith in
     omega (arith, mul-le-mul-left a bit)
 
--- where c goes k times into n, and not once more
-pub goes : (n c k : ℕ) → k * c ≤ n → n < k * c + c → (n / c ≡ k) × (n % c ≡ n - k * c)
-goes n c k low high = (quotient-unique n c k (n - k * c) (omega arith) (omega arith), remainder-unique n c k (n - k * c) (omega arith) (omega arith))
+-- from k × c on, and below one c more: c goes k times into n
+pub between-multiples : (n c k : ℕ) → k * c ≤ n → n < k * c + c → (n / c ≡ k) × (n % c ≡ n - k * c)
+between-multiples n c k low high = (quotient-unique n c k (n - k * c) (omega arith) (omega arith), remainder-unique n c k (n - k * c) (omega arith) (omega arith))
 
 -- what is below c, times n, holds c at most n times; the walk's n is at most b
 pub walked-at-most : (a b c left q r : ℕ) → Walked a b c left q r → a < c → q ≤ b

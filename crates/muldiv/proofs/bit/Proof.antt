@@ -1,5 +1,5 @@
--- `muldiv::bit` meets its contract. `search` would prove it with no file; this one makes the refusal of a wrong bit say where it fails.
--- Assumes nothing.
+-- `muldiv::bit` meets its contract. `search` would prove it with no file; this one makes the refusal of a wrong bit say where it fails, with
+-- numbers in which 2 ^ k is not 0. Assumes nothing.
 use native.Mathlib.Omega.{arith}
 use lib.Pow.{pow-pos}
 use Rattle.muldiv.proofs.bit.Statement.{statement}
