@@ -1,8 +1,8 @@
 -- Quotient and remainder, argued once for any divisor: every other proof cites these. `a / 0` is 0, so a law that needs a divisor says `0 < c`.
 -- Assumes nothing.
-use mathlib.Core.Path.{_≡_, ap}
-use Prim.Native.Nat.{ℕ, zero, suc, _+_, _*_, _/_, _%_, _<_, _≤_}
-use native.Mathlib.Nat.{div-mul-le-self, lt-div-mul-add, le-div-iff-mul-le, div-lt-iff-lt-mul, div-eq-of-lt-le, div-zero, div-add-mod', mod-lt}
+use mathlib.Core.Path.{_≡_, ap, ap₂}
+use Prim.Native.Nat.{ℕ, zero, suc, _+_, _-_, _*_, _/_, _%_, _<_, _≤_}
+use native.Mathlib.Nat.{div-mul-le-self, lt-div-mul-add, le-div-iff-mul-le, div-lt-iff-lt-mul, div-eq-of-lt-le, div-zero, div-add-mod', mod-lt, mul-le-mul-right}
 use native.Mathlib.Omega.{arith}
 
 -- the quotient times the divisor does not pass the number
@@ -43,3 +43,39 @@ remainder-below a c pos = mod-lt a pos
 pub remainder-unique : (a c q r : ℕ) → r < c → q * c + r ≡ a → a % c ≡ r
 remainder-unique a c q r rest whole =
     omega (arith, quotient-remainder a c, ap (λ (n : ℕ). n * c) (quotient-unique a c q r rest whole))
+
+-- from k divisors on, and below one more: the divisor goes k times into the number
+pub between-multiples : (a c k : ℕ) → k * c ≤ a → a < k * c + c → (a / c ≡ k) × (a % c ≡ a - k * c)
+between-multiples a c k low high = (quotient-unique a c k (a - k * c) (omega arith) (omega arith), remainder-unique a c k (a - k * c) (omega arith) (omega arith))
+
+-- the quotient of a product by k × k, from both factors cut at k: what the lower parts carry goes to the middle products, and what these carry to the upper one
+pub quotient-in-parts : (a b k : ℕ) → 0 < k → a * b / (k * k) ≡ a / k * (b / k) + (a / k * (b % k) + a % k * (b / k) + a % k * (b % k) / k) / k
+quotient-in-parts a b k pos =
+    quotient-unique (a * b) (k * k) (a1 * b1 + middle / k) (middle % k * k + low % k) (omega (arith, mul-le-mul-right k left, remainder-below low k pos)) whole
+  where
+    a1 : ℕ
+    a1 = a / k
+
+    a0 : ℕ
+    a0 = a % k
+
+    b1 : ℕ
+    b1 = b / k
+
+    b0 : ℕ
+    b0 = b % k
+
+    low : ℕ
+    low = a0 * b0
+
+    middle : ℕ
+    middle = a1 * b0 + a0 * b1 + low / k
+
+    left : middle % k + 1 ≤ k
+    left = omega (arith, remainder-below middle k pos)
+
+    -- both sides are a1 × b1 × k × k + middle × k + low % k
+    whole : (a1 * b1 + middle / k) * (k * k) + (middle % k * k + low % k) ≡ a * b
+    whole =
+        omega
+        (arith, ap (λ (n : ℕ). n * k) (quotient-remainder middle k), quotient-remainder low k, ap₂ _*_ (quotient-remainder a k) (quotient-remainder b k))

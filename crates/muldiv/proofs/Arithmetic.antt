@@ -4,7 +4,7 @@ use Prim.Native.Nat.{ℕ, _+_, _-_, _*_, _/_, _%_, _^_, _<_, _≤_}
 use native.Mathlib.Nat.{mul-le-mul-left, mul-le-mul-right, le-of-mul-le-mul-right}
 use native.Mathlib.Omega.{arith}
 use lib.Pow.{shr-shr, shr-le}
-use Rattle.laws.specs.Rounding.{quotient-low, quotient-high, quotient-unique, quotient-remainder, remainder-below, remainder-unique}
+use Rattle.laws.specs.Rounding.{quotient-low, quotient-high, quotient-unique, quotient-remainder, remainder-below}
 use Rattle.muldiv.specs.MulDiv.{Walked}
 
 -- a × n, by n without its last bit: doubled, with a once more where that bit is set
@@ -15,10 +15,6 @@ pub at-most-once : (a n : ℕ) → a * (n % 2) ≤ a
 at-most-once a n =
     let bit : n % 2 ≤ 1 = omega arith in
     omega (arith, mul-le-mul-left a bit)
-
--- from k × c on, and below one c more: c goes k times into n
-pub between-multiples : (n c k : ℕ) → k * c ≤ n → n < k * c + c → (n / c ≡ k) × (n % c ≡ n - k * c)
-between-multiples n c k low high = (quotient-unique n c k (n - k * c) (omega arith) (omega arith), remainder-unique n c k (n - k * c) (omega arith) (omega arith))
 
 -- what is below c, times n, holds c at most n times; the walk's n is at most b
 pub walked-at-most : (a b c left q r : ℕ) → Walked a b c left q r → a < c → q ≤ b

@@ -13,6 +13,9 @@ const LIMIT: u64 = 1 << 62;
 // The largest number of 64 bits.
 const LARGEST: u64 = 0xffff_ffff_ffff_ffff;
 
+// 10^6, the root of 10^12.
+const MILLION: u64 = 1_000_000;
+
 // The quotient, or Nothing where there is none or it does not fit.
 pub enum Quotient {
     Of(u64),
@@ -43,6 +46,25 @@ pub fn scaled(a: u64, b: u64, c: u64) -> u64
         Quotient::Of(q) => q,
         Quotient::Nothing => 0,
     }
+}
+
+// a * b / 10^12, by parts: quicker than a walk through the bits of b, for a caller who has many of them.
+// Both factors are cut at 10^6, a = a1 * 10^6 + a0 and b = b1 * 10^6 + b0, so that their product is
+//
+//     a1 * b1 * 10^12 + (a1 * b0 + a0 * b1) * 10^6 + a0 * b0
+//
+// No number passes 64 bits, and every divisor is a constant.
+pub fn over_trillion(a: u64, b: u64) -> u64
+    requires { ⌜ (a ≤ 10 ^ 15) × (b ≤ 10 ^ 12) ⌝ }
+    ensures { λ r. ⌜ r ≡ a * b / 10 ^ 12 ⌝ }
+{
+    let a1 = a / MILLION;
+    let a0 = a % MILLION;
+    let b1 = b / MILLION;
+    let b0 = b % MILLION;
+    let carry = a0 * b0 / MILLION;
+    let middle = a1 * b0 + a0 * b1 + carry;
+    a1 * b1 + middle / MILLION
 }
 
 // high * b + low, or Nothing where that is 2^64 or more.

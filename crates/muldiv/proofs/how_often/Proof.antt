@@ -1,6 +1,6 @@
 -- `muldiv::how_often` meets its contract. Assumes nothing.
 use native.Mathlib.Omega.{arith}
-use Rattle.muldiv.proofs.Arithmetic.{between-multiples}
+use Rattle.laws.specs.Rounding.{between-multiples}
 use Rattle.muldiv.proofs.how_often.Statement.{statement}
 use Rattle.muldiv.proofs.how_often.Tie as tie
 
