@@ -1,11 +1,10 @@
 -- "Chain": the model that a file states, and its uniformized chain. What follows the bytes speaks of a Model and not of bytes.
 use Prim.Native.Nat.{ℕ, _+_, _*_, _-_, _/_, _%_, max}
 use mathlib.Core.List.{List}
-use mathlib.Core.Bool.{_&&_}
 use lib.ListN.{getD}
 use lib.Dec.{eqb, ltb}
 use Rattle.definitions.specs.declared.Sizes.{Sizes}
-use Rattle.definitions.specs.Sums.{sum, largest, firsts, pick}
+use Rattle.definitions.specs.Sums.{sum, largest, firsts, over, pick}
 use Rattle.definitions.specs.File.{stateCount, highestMoment, toleranceField, timeField, rewardField, rateField}
 
 -- M, R, ε in billionths, T in hours, f, and the transition rates between two different states
@@ -69,20 +68,20 @@ chainOf m = record { states = m .states; rate = uniformRate m; entry = c m; rewa
 unfoldable pub padded : ℕ → (ℕ → ℕ) → List ℕ
 padded M v = firsts 64 (λ i. pick (ltb i M) (v i) 0)
 
--- c as one array of 64 rows of 64 entries, row after row, 0 past M: entry k of it, and the array
+-- c as one list, row after row without gaps: its entry k, where c(i,j) is entry i × M + j; and the list, with what stands past c as in l
 unfoldable pub flatEntry : Chain → ℕ → ℕ
-flatEntry ch k = pick (ltb (k / 64) (ch .states) && ltb (k % 64) (ch .states)) (ch .entry (k / 64) (k % 64)) 0
+flatEntry ch k = ch .entry (k / ch .states) (k % ch .states)
 
-unfoldable pub flat : Chain → List ℕ
-flat ch = firsts 4096 (flatEntry ch)
+unfoldable pub flat : Chain → List ℕ → List ℕ
+flat ch l = over (ch .states * ch .states) (flatEntry ch) l
 
--- the chain that stands in arrays, with M, E and F among its sizes: c as 64 rows of 64 entries, and f for 64 states
+-- the chain that stands in arrays, with M, E and F among its sizes: c row after row, and f for 64 states
 abbrev pub arrays : Sizes → List ℕ → List ℕ → Chain
 arrays sizes c f =
     record {
       states = sizes .states;
       rate = sizes .rate;
-      entry = λ i j. getD c (i * 64 + j) 0;
+      entry = λ i j. getD c (i * sizes .states + j) 0;
       reward = λ i. getD f i 0;
       largestReward = sizes .largest;
     }

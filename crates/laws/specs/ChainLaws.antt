@@ -1,15 +1,18 @@
 -- The uniformized chain: each row of c sums to E, f ≤ F, and the arrays that hold a chain.
-use Prim.Native.Nat.{ℕ, zero, suc, _+_, _*_, _-_, _/_, _%_, _≤_, _<_}
+use Prim.Native.Nat.{ℕ, zero, suc, _+_, _*_, _-_, _≤_, _<_}
+use native.Mathlib.Nat.{mul-le-mul, mul-le-mul-right}
 use native.Mathlib.Omega.{arith}
 use native.Mathlib.Decide.{ℕ-discrete}
-use mathlib.Core.Path.{_≡_, refl, _∙_}
+use mathlib.Core.Path.{_≡_, refl, _∙_, ap₂}
+use mathlib.Core.List.{List}
 use lib.ListN.{getD}
 use lib.Dec.{eqb, ltb}
 use borrow.Author.Tests.{eq-eqb, ne-eqb, lt-ltb}
 use Rattle.definitions.specs.Sums.{sum, pick}
 use Rattle.definitions.specs.Chain.{Model, jumpRate, rowSum, uniformRate, c, maxReward, Chain, chainOf, padded, flatEntry, flat, arrays, sizesOf}
 use Rattle.laws.specs.SumLaws.{sum-same, le-largest}
-use Rattle.laws.specs.ListLaws.{getD-firsts}
+use Rattle.laws.specs.Rounding.{quotient-unique, remainder-unique}
+use Rattle.laws.specs.ListLaws.{getD-firsts, getD-over}
 
 -- what changes at the diagonal alone changes the sum by that much
 pub sum-diagonal : (n i d : ℕ) (g : ℕ → ℕ) → i < n → sum n (λ j. pick (eqb j i) d (g j)) ≡ sum n (λ j. pick (eqb j i) 0 (g j)) + d
@@ -49,20 +52,22 @@ pub getD-padded : (M : ℕ) (v : ℕ → ℕ) (i : ℕ) → M ≤ 64 → i < M �
 unfolding padded
 getD-padded M v i h l = getD-firsts 0 64 (λ j. pick (ltb j M) (v j) 0) i (omega arith) ∙ rw (lt-ltb i M l)
 
--- c(i,j) stands at 64 × i + j
-pub flat-entry : (ch : Chain) (i j : ℕ) → ch .states ≤ 64 → i < ch .states → j < ch .states → flatEntry ch (i * 64 + j) ≡ ch .entry i j
+-- c(i,j) stands at i × M + j, before M × M
+pub in-square : (i j M : ℕ) → i < M → j < M → i * M + j < M * M
+in-square i j M li lj = omega (arith, mul-le-mul-right M li)
+
+-- and c has at most 4,096 entries
+pub square-max : (M : ℕ) → M ≤ 64 → M * M ≤ 4096
+square-max M h = mul-le-mul h h
+
+pub flat-entry : (ch : Chain) (i j : ℕ) → j < ch .states → flatEntry ch (i * ch .states + j) ≡ ch .entry i j
 unfolding flatEntry
-flat-entry ch i j h li lj = rw (row, column, lt-ltb i (ch .states) li, lt-ltb j (ch .states) lj) refl
-  where
-    row : (i * 64 + j) / 64 ≡ i
-    row = omega arith
+flat-entry ch i j l =
+    ap₂ (ch .entry) (quotient-unique _ (ch .states) i j l refl) (remainder-unique _ (ch .states) i j l refl)
 
-    column : (i * 64 + j) % 64 ≡ j
-    column = omega arith
-
-pub getD-flat : (ch : Chain) (i j : ℕ) → ch .states ≤ 64 → i < ch .states → j < ch .states → getD (flat ch) (i * 64 + j) 0 ≡ ch .entry i j
+pub getD-flat : (ch : Chain) (l : List ℕ) (i j : ℕ) → i < ch .states → j < ch .states → getD (flat ch l) (i * ch .states + j) 0 ≡ ch .entry i j
 unfolding flat
-getD-flat ch i j h li lj = getD-firsts 0 4096 (flatEntry ch) (i * 64 + j) (omega arith) ∙ flat-entry ch i j h li lj
+getD-flat ch l i j li lj = getD-over 0 (ch .states * ch .states) (flatEntry ch) l (i * ch .states + j) (in-square i j (ch .states) li lj) ∙ flat-entry ch i j lj
 
 -- two chains that agree at every pair of states
 pub record SameChain (a b : Chain) : Type 0 where
@@ -72,13 +77,13 @@ pub record SameChain (a b : Chain) : Type 0 where
   pub entry : (i j : ℕ) → i < a .states → j < a .states → a .entry i j ≡ b .entry i j
   pub reward : (i : ℕ) → i < a .states → a .reward i ≡ b .reward i
 
--- the arrays of a model's chain hold that chain
-pub arrays-same : (m : Model) → m .states ≤ 64 → SameChain (arrays (sizesOf m) (flat (chainOf m)) (padded (m .states) (m .reward))) (chainOf m)
-arrays-same m h =
+-- the arrays of a model's chain hold that chain, whatever stands past it
+pub arrays-same : (m : Model) (l : List ℕ) → m .states ≤ 64 → SameChain (arrays (sizesOf m) (flat (chainOf m) l) (padded (m .states) (m .reward))) (chainOf m)
+arrays-same m l h =
     record {
       states = refl;
       rate = refl;
       largestReward = refl;
-      entry = λ i j li lj. getD-flat (chainOf m) i j h li lj;
-      reward = λ i l. getD-padded (m .states) (m .reward) i h l;
+      entry = λ i j li lj. getD-flat (chainOf m) l i j li lj;
+      reward = λ i b. getD-padded (m .states) (m .reward) i h b;
     }

@@ -12,8 +12,8 @@ ghost use Rattle.definitions.specs.Bytes.{big};
 ghost use Rattle.definitions.specs.File.{lengthField, version, stateCount, highestMoment, toleranceField, timeField, rewardsAt, rewardField, rowAt, place};
 ghost use Rattle.definitions.specs.Chain.{modelOf, rowSum, uniformRate, maxReward, chainOf, padded, flat, sizesOf};
 ghost use Rattle.laws.specs.Acceptance.{Framed};
-ghost use Rattle.laws.specs.ArrayLaws.{zeros, entryOf};
-ghost use Rattle.reader.specs.Rows.{chainRows, WritesRow};
+ghost use Rattle.laws.specs.ArrayLaws.{entryOf};
+ghost use Rattle.reader.specs.Rows.{RowWritten, WritesRow};
 use definitions::Sizes;
 
 // 1. Where the file's numbers stand. No offset is written anywhere else.
@@ -176,7 +176,7 @@ pub fn row_of(file: &[u8], i: usize) -> &[u8]
 // Entry j of row i. The row in the file leaves the diagonal out: the caller says what stands there.
 fn entry_in(row: &[u8], i: usize, j: usize, diagonal: u64) -> u64
     requires { ⌜ ((j ≡ i → ⊥) → 4 * place i j + 4 ≤ length (now row)) ⌝ }
-    ensures { λ r. ⌜ (r ≡ pick (eqb j i) diagonal (big 4 (now (row .entry)) (4 * place i j))) × (r < diagonal + 2 ^ 32) ⌝ }
+    ensures { λ r. ⌜ (r ≡ pick (eqb j i) diagonal (big 4 (now (row .entry)) (4 * place i j))) × (diagonal < 2 ^ 32 → r < 2 ^ 32) ⌝ }
 {
     if j == i {
         return diagonal;
@@ -249,37 +249,30 @@ pub fn jump_millionths(rate: u64, time: u64) -> u64
     rate * time
 }
 
-// 6. The chain c as 64 rows of 64 entries, row after row: c(i,j) is entry 64 × i + j, and 0 past M.
-
-fn no_rows() -> [u64; 4096]
-    ensures { λ r. ⌜ r ≡ zeros 4096 ⌝ }
-{
-    [0u64; 4096]
-}
+// 6. The chain c, row after row without gaps: c(i,j) is entry M × i + j.
 
 // Row i of c, written after the rows before it.
-fn write_row(file: &[u8], i: usize, diagonal: u64, chain: &mut [u64; 4096])
+fn write_row(file: &[u8], i: usize, diagonal: u64, chain: &mut [u32])
     requires { ⌜ WritesRow (now file) i diagonal (now chain) ⌝ }
-    ensures { λ r. ⌜ now (chain .exit) ≡ chainRows (now (file .entry)) (i + 1) ⌝ }
+    ensures { λ r. ⌜ RowWritten (now (file .entry)) i (now (chain .entry)) (now (chain .exit)) ⌝ }
 {
     let states = state_count(file);
     let row = row_of(file, i);
     for j in 0..states {
-        chain[i * 64 + j] = entry_in(row, i, j, diagonal);
+        chain[i * states + j] = entry_in(row, i, j, diagonal) as u32;
     }
 }
 
-// c: the rates, and on the diagonal E less the row's sum.
-pub fn chain_of(file: &[u8], sums: &[u64; 64], rate: u64) -> [u64; 4096]
-    requires { ⌜ Framed (now file) ⌝ }
+// c as the first M × M entries of what is lent: the rates, and on the diagonal E less the row's sum. The
+// entries past c stay.
+pub fn write_chain(file: &[u8], sums: &[u64; 64], rate: u64, chain: &mut [u32])
+    requires { ⌜ Framed (now file) × (stateCount (now file) * stateCount (now file) ≤ length (now chain)) ⌝ }
     requires { ⌜ now sums ≡ padded (stateCount (now file)) (rowSum (modelOf (now file))) ⌝ }
-    requires { ⌜ rate ≡ uniformRate (modelOf (now file)) ⌝ }
-    ensures { λ r. ⌜ r ≡ flat (chainOf (modelOf (now (file .entry)))) ⌝ }
+    requires { ⌜ (rate ≡ uniformRate (modelOf (now file))) × (rate < 2 ^ 32) ⌝ }
+    ensures { λ r. ⌜ now (chain .exit) ≡ flat (chainOf (modelOf (now (file .entry)))) (now (chain .entry)) ⌝ }
 {
     let states = state_count(file);
-    let mut chain = no_rows();
     for i in 0..states {
-        write_row(file, i, rate - sums[i], &mut chain);
+        write_row(file, i, rate - sums[i], chain);
     }
-    chain
 }

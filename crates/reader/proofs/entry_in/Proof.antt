@@ -10,7 +10,7 @@ use Rattle.reader.proofs.entry_in.Tie as tie
 returns : tie.Need-returns
 returns c =
     let args = c .before .before .args in
-    (rw (eq-eqb (args .j) (args .i) (c .if1 .taken)) refl, omega arith)
+    (rw (eq-eqb (args .j) (args .i) (c .if1 .taken)) refl, λ small. small)
 
 -- the rate lies in the row
 low : (c : tie.Then2) → 4 * c .before .before .before .args .j + 4 ≤ length (c .before .before .before .args .row .now)
@@ -27,14 +27,14 @@ returns-2 : tie.Need-returns-2
 returns-2 c =
     let args = c .before .before .before .before .args in (
       rw (ne-eqb (args .j) (args .i) (c .before .before .if1 .left), lt-ltb (args .j) (args .i) (c .before .if2 .taken)) (c .be .ensures .0),
-      omega arith,
+      λ small. omega arith,
     )
 
 returns-3 : tie.Need-returns-3
 returns-3 c =
     let args = c .before .before .before .before .args in (
       rw (ne-eqb (args .j) (args .i) (c .before .before .if1 .left), le-ltb (args .j) (args .i) (c .before .if2 .left)) (c .be2 .ensures .0),
-      omega arith,
+      λ small. omega arith,
     )
 
 pub entry-in-spec : {M : Type 1} → statement M

@@ -37,7 +37,7 @@ loop-again c =
     unfold jumpRate in rw (c .before .before .before .row-of .ensures, entry-in-row file (args .i) (now .j) 0) at (c .entry-in .ensures .0) in (
       omega arith,
       ap₂ _+_ (now .inv .1) entry ∙ rw (add-one, sum-suc) refl,
-      omega arith,
+      omega (arith, c .entry-in .ensures .1 (omega arith)),
     )
 
 returns : tie.Need-returns Inv-loop μ-loop
@@ -57,7 +57,7 @@ row-sum-spec =
     row-of-requires
     (λ c. (omega arith, sym (sum-zero _), omega arith))
     entry-in-requires
-    (λ c. omega arith)
+    (λ c. omega (arith, c .entry-in .ensures .1 (omega arith)))
     (λ c. omega arith)
     (λ c. omega arith)
     loop-again
