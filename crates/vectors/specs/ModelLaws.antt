@@ -1,10 +1,13 @@
 -- The arrays of a model's chain are ready for the steps, and hold the model's own vectors. Assumes nothing.
 use mathlib.Core.Path.{_≡_}
-use Prim.Native.Nat.{ℕ, _<_}
+use mathlib.Core.List.{List}
+use Prim.Native.Nat.{ℕ, _*_, _≤_, _<_}
 use native.Mathlib.Omega.{arith}
+use lib.ListN.{length}
 use Rattle.definitions.specs.Sums.{sum}
-use Rattle.definitions.specs.Chain.{Model, Chain, chainOf, padded, flat, arrays, sizesOf}
+use Rattle.definitions.specs.Chain.{Model, Chain, chainOf, padded, flatEntry, flat, arrays, sizesOf}
 use Rattle.laws.specs.SumLaws.{sum-same}
+use Rattle.laws.specs.ListLaws.{length-over}
 use Rattle.laws.specs.ChainLaws.{SameChain, arrays-same}
 use Rattle.laws.specs.VectorLaws.{Stochastic}
 use Rattle.laws.specs.Acceptance.{WithinLimits, stochastic}
@@ -21,13 +24,14 @@ stochastic-same a b e s =
     rows : (i : ℕ) → i < a .states → sum (a .states) (a .entry i) ≡ sum (b .states) (b .entry i)
     rows i l = rw (← e .states) (sum-same (a .states) (a .entry i) (b .entry i) (λ j k. e .entry i j l k))
 
--- the chain of a model as its arrays hold it
-abbrev pub held : Model → Chain
-held m = arrays (sizesOf m) (flat (chainOf m)) (padded (m .states) (m .reward))
+-- the chain of a model as its arrays hold it, c in the place of the first entries of l
+abbrev pub held : Model → List ℕ → Chain
+held m l = arrays (sizesOf m) (flat (chainOf m) l) (padded (m .states) (m .reward))
 
-pub model-ready : (m : Model) → WithinLimits m → Ready (sizesOf m) (flat (chainOf m)) (padded (m .states) (m .reward))
-model-ready m limits =
-    let range : Stochastic (held m) = stochastic-same (held m) (chainOf m) (arrays-same m (limits .states-max)) (stochastic m) in
+pub model-ready : (m : Model) (l : List ℕ) → WithinLimits m → m .states * m .states ≤ length l → Ready (sizesOf m) (flat (chainOf m) l) (padded (m .states) (m .reward))
+unfolding flat
+model-ready m l limits room =
+    let range : Stochastic (held m l) = stochastic-same (held m l) (chainOf m) (arrays-same m l (limits .states-max)) (stochastic m) in
     record {
       rewards = record {
         states-max = limits .states-max;
@@ -35,6 +39,7 @@ model-ready m limits =
         largest-max = limits .rewards-max;
         reward = range .reward;
       };
+      room = omega (arith, length-over (m .states * m .states) (flatEntry (chainOf m)) l room);
       rate-pos = limits .rate-min;
       rate-max = limits .rate-max;
       stochastic = range;

@@ -1,7 +1,7 @@
 -- What a step needs of the arrays that hold a chain, and of a vector. Assumes nothing: these are definitions.
 use mathlib.Core.List.{List}
 use Prim.Native.Nat.{ℕ, _+_, _*_, _≤_, _<_, _^_}
-use lib.ListN.{getD}
+use lib.ListN.{length, getD}
 use Rattle.definitions.specs.declared.Sizes.{Sizes}
 use Rattle.definitions.specs.Sums.{sum}
 use Rattle.definitions.specs.Chain.{arrays}
@@ -18,6 +18,7 @@ pub record RewardsReady (z : Sizes) (f : List ℕ) : Type 0 where
 -- so are c and E
 pub record Ready (z : Sizes) (c f : List ℕ) : Type 0 where
   pub rewards : RewardsReady z f
+  pub room : z .states * z .states ≤ length c
   pub rate-pos : 1 ≤ z .rate
   pub rate-max : z .rate ≤ 10000000
   pub stochastic : Stochastic (arrays z c f)
@@ -34,10 +35,11 @@ pub record Indices (n r : ℕ) : Type 0 where
 
 -- row i of c against v: its products sum to less than 2^64
 pub record RowReady (z : Sizes) (c v : List ℕ) (i : ℕ) : Type 0 where
-  pub state : i < 64
+  pub state : i < z .states
   pub states-max : z .states ≤ 64
+  pub room : z .states * z .states ≤ length c
   pub rate-pos : 1 ≤ z .rate
-  pub fits : sum (z .states) (λ j. getD c (i * 64 + j) 0 * getD v j 0) < 2 ^ 64
+  pub fits : sum (z .states) (λ j. getD c (i * z .states + j) 0 * getD v j 0) < 2 ^ 64
 
 -- V and W of a step with n and r
 pub record MixReady (n r v w : ℕ) : Type 0 where

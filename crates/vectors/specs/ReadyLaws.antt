@@ -20,6 +20,7 @@ module _ {z : Sizes} {c f : List ℕ} {n r : ℕ} {before same : List ℕ} (give
       record {
         state = omega arith;
         states-max = omega arith;
+        room = given .ready .room;
         rate-pos = omega arith;
         fits = omega (arith, row-bound (arrays z c f) (entryOf before) ONE i (given .ready .stochastic) l (given .before-ticks .below), mul-le-mul-right ONE (given .ready .rate-max));
       }

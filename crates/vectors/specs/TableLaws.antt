@@ -1,35 +1,30 @@
--- The rows of a table of vectors, and the table that is filled row by row. Assumes nothing.
+-- The rows of a table of vectors, and the table of n that is filled row by row over another. Assumes nothing.
 use mathlib.Core.List.{List, []}
-use mathlib.Core.Path.{_≡_, sym, ap, _∙_}
+use mathlib.Core.Path.{_≡_, refl, sym, ap, _∙_}
 use Prim.Native.Nat.{ℕ, _+_, _≤_, _<_}
 use native.Mathlib.Omega.{arith}
 use lib.Dec.{leb}
-use lib.ListN.{getD, set, replicate, length-replicate, getD-replicate}
+use lib.ListN.{length, getD, set, replicate, length-replicate, getD-replicate}
 use borrow.Author.Tests.{le-leb, lt-leb}
 use Rattle.definitions.specs.Sums.{over, pick}
 use Rattle.definitions.specs.Chain.{Chain, padded}
 use Rattle.definitions.specs.Vectors.{ONE, U, vector}
-use Rattle.laws.specs.ListLaws.{getD-firsts, getD-over, over-none, over-same, over-store, over-whole}
+use Rattle.laws.specs.ListLaws.{length-firsts, getD-firsts, getD-over, getD-over-past, over-none, over-same, over-store, over-further, over-whole}
 use Rattle.laws.specs.ArrayLaws.{zeros}
 use Rattle.vectors.specs.Table.{tableOf}
 use Rattle.vectors.specs.StepLaws.{getD-vector, vector-zero}
+
+-- 9 rows, with zeros past row R
+pub record Spare (R : ℕ) (l : List (List ℕ)) : Type 0 where
+  pub rows : length l ≡ 9
+  pub past : (r : ℕ) → R < r → r < 9 → getD l r [] ≡ zeros 64
 
 -- 9 rows of zeros
 abbrev pub blank : List (List ℕ)
 blank = replicate 9 (zeros 64)
 
-module _ (ch : Chain) (n : ℕ) where
-  -- the rows of a table that is filled so far
-  pub row-filled : (k r : ℕ) (t : List (List ℕ)) → t ≡ over k (vector ch n) blank → r < k → getD t r [] ≡ vector ch n r
-  row-filled k r t so l = rw so (getD-over [] k (vector ch n) blank r l)
-
-  -- U(n,0) is its first row
-  pub table-start : ch .states ≤ 64 → {v : List ℕ} → v ≡ padded (ch .states) (λ i. ONE) → set blank 0 v ≡ over (0 + 1) (vector ch n) blank
-  table-start h e = over-store 0 (vector ch n) blank blank _ (omega (arith, length-replicate 9 (zeros 64))) (sym (over-none (vector ch n) blank)) (e ∙ vector-zero ch h n)
-
-  -- and U(n,r) the next
-  pub table-more : (r : ℕ) (t : List (List ℕ)) → r ≤ 8 → t ≡ over r (vector ch n) blank → {v : List ℕ} → v ≡ vector ch n r → set t r v ≡ over (r + 1) (vector ch n) blank
-  table-more r t h so e = over-store r (vector ch n) blank t _ (omega (arith, length-replicate 9 (zeros 64))) so e
+pub blank-spare : (R : ℕ) → Spare R blank
+blank-spare R = record { rows = length-replicate 9 (zeros 64); past = λ r h l. getD-replicate 9 r (zeros 64) [] l }
 
 module _ (ch : Chain) (R n : ℕ) (highest-max : R ≤ 8) where
   -- row r is U(n,r)
@@ -41,15 +36,50 @@ module _ (ch : Chain) (R n : ℕ) (highest-max : R ≤ 8) where
   pub table-entry : (r i : ℕ) → r ≤ R → ch .states ≤ 64 → i < ch .states → getD (getD (tableOf ch R n) r []) i 0 ≡ U ch n r i
   table-entry r i l h li = rw (table-row r l) (getD-vector ch h n r i li)
 
-  -- filled up to R it is the table of n
-  pub table-filled : (k : ℕ) (t : List (List ℕ)) → t ≡ over k (vector ch n) blank → k ≡ R + 1 → t ≡ tableOf ch R n
+  pub table-spare : Spare R (tableOf ch R n)
   unfolding tableOf
-  table-filled k t so all =
+  table-spare =
+      record {
+        rows = length-firsts 9 (λ r. pick (leb r R) (vector ch n r) (zeros 64));
+        past = λ r h l. getD-firsts [] 9 (λ r. pick (leb r R) (vector ch n r) (zeros 64)) r l ∙ rw (lt-leb r R h);
+      }
+
+-- the vectors of n over the rows of l
+module _ (ch : Chain) (n : ℕ) (l : List (List ℕ)) where
+  -- the rows that are filled so far
+  pub row-filled : (k r : ℕ) (t : List (List ℕ)) → t ≡ over k (vector ch n) l → r < k → getD t r [] ≡ vector ch n r
+  row-filled k r t so h = rw so (getD-over [] k (vector ch n) l r h)
+
+  -- U(n,r) as the next row
+  pub table-more : (r : ℕ) (t : List (List ℕ)) → length l ≡ 9 → r ≤ 8 → t ≡ over r (vector ch n) l → {v : List ℕ} → v ≡ vector ch n r → set t r v ≡ over (r + 1) (vector ch n) l
+  table-more r t rows h so e = over-store r (vector ch n) l t _ (omega arith) so e
+
+  -- filled up to R it is the table of n
+  pub table-filled : (R k : ℕ) (t : List (List ℕ)) → Spare R l → R ≤ 8 → t ≡ over k (vector ch n) l → k ≡ R + 1 → t ≡ tableOf ch R n
+  unfolding tableOf
+  table-filled R k t spare highest-max so all =
       so
-      ∙ ap (λ (m : ℕ). over m (vector ch n) blank) all
-      ∙ over-same (R + 1) (vector ch n) row blank (λ r l. rw (le-leb r R (omega arith)))
-      ∙ over-whole [] (R + 1) 9 row blank (omega arith) (length-replicate 9 (zeros 64))
-      (λ r past l. rw (lt-leb r R (omega arith)) (sym (getD-replicate 9 r (zeros 64) [] l)))
+      ∙ ap (λ (m : ℕ). over m (vector ch n) l) all
+      ∙ over-same (R + 1) (vector ch n) row l (λ r b. rw (le-leb r R (omega arith)))
+      ∙ over-whole [] (R + 1) 9 row l (omega arith) (spare .rows) (λ r past b. rw (lt-leb r R (omega arith)) (sym (spare .past r (omega arith) b)))
     where
       row : ℕ → List ℕ
       row r = pick (leb r R) (vector ch n r) (zeros 64)
+
+-- from zeros: U(n,0) is the first row
+pub table-start : (ch : Chain) (n : ℕ) → ch .states ≤ 64 → {v : List ℕ} → v ≡ padded (ch .states) (λ i. ONE) → set blank 0 v ≡ over (0 + 1) (vector ch n) blank
+table-start ch n h e = table-more ch n blank 0 blank (length-replicate 9 (zeros 64)) (omega arith) (sym (over-none (vector ch n) blank)) (e ∙ vector-zero ch h n)
+
+-- over the table of another n, m: its first row is U(n,0) too, and the rows that are not filled yet are those of m
+module _ (ch : Chain) (R n m : ℕ) (highest-max : R ≤ 8) where
+  pub rows-start : ch .states ≤ 64 → tableOf ch R m ≡ over 1 (vector ch n) (tableOf ch R m)
+  rows-start h =
+      sym (over-none (vector ch n) (tableOf ch R m))
+      ∙ over-further [] 0 1 (vector ch n) (tableOf ch R m) (omega arith) (omega (arith, table-spare ch R m highest-max .rows))
+      (λ k low high. first k (omega arith))
+    where
+      first : (k : ℕ) → k ≡ 0 → vector ch n k ≡ getD (tableOf ch R m) k []
+      first k e = rw e (sym (vector-zero ch h n) ∙ vector-zero ch h m ∙ sym (table-row ch R m highest-max 0 (omega arith)))
+
+  pub row-to-come : (k r : ℕ) (t : List (List ℕ)) → t ≡ over k (vector ch n) (tableOf ch R m) → k ≤ r → r ≤ R → getD t r [] ≡ vector ch m r
+  row-to-come k r t so low high = rw so (getD-over-past [] k (vector ch n) (tableOf ch R m) r low ∙ table-row ch R m highest-max r high)

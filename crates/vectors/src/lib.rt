@@ -1,6 +1,6 @@
 // The reward vectors U(n,r): a number of ticks for each of 64 states.
 //
-// The chain c stands in one array, c(i,j) at i * 64 + j, and is lent. A vector goes in by value and
+// The chain c is lent, row after row without gaps: c(i,j) at i * M + j. A vector goes in by value and
 // the new one comes back: no vector changes while it is read.
 ghost use mathlib.Core.Path.{_≡_};
 ghost use mathlib.Core.List.{List};
@@ -14,15 +14,21 @@ ghost use Rattle.vectors.specs.Table.{tableOf};
 use definitions::ONE;
 use definitions::Sizes;
 
+fn wide(x: u32) -> u64
+    ensures { λ r. ⌜ r ≡ x ⌝ }
+{
+    x as u64
+}
+
 // V: the sum over j of c(i,j) * v(j), over E, down. It reads no reward.
-fn row_mean(sizes: Sizes, chain: &[u64; 4096], v: &[u64; 64], i: usize) -> u64
+fn row_mean(sizes: Sizes, chain: &[u32], v: &[u64; 64], i: usize) -> u64
     requires { ⌜ RowReady sizes (now chain) (now v) i ⌝ }
     ensures { λ r. ⌜ ((f : List ℕ) → r ≡ rowMean (arrays sizes (now (chain .entry)) f) (entryOf (now (v .entry))) i) ⌝ }
 {
     let states = sizes.states;
     let mut total = 0;
     for j in 0..states {
-        total += chain[i * 64 + j] * v[j];
+        total += wide(chain[i * states + j]) * v[j];
     }
     total / sizes.rate
 }
@@ -46,7 +52,7 @@ fn mix(n: u64, r: u64, v: u64, w: u64) -> u64
 // U(n,r) of U(n-1,r), before, and U(n,r-1), same: at the states, and 0 past them.
 pub fn step(
     sizes: Sizes,
-    chain: &[u64; 4096],
+    chain: &[u32],
     rewards: &[u64; 64],
     n: u64,
     r: u64,
@@ -108,26 +114,23 @@ pub fn first_table(sizes: Sizes, rewards: &[u64; 64]) -> [[u64; 64]; 9]
     table
 }
 
-// The vectors of n, from those of n - 1: R steps.
+// The vectors of n in the place of those of n - 1: R steps. Row r is read as U(n-1,r) and becomes U(n,r); the
+// row before it is U(n,r-1) by then.
 pub fn next_table(
     sizes: Sizes,
-    chain: &[u64; 4096],
+    chain: &[u32],
     rewards: &[u64; 64],
     n: u64,
-    table: [[u64; 64]; 9],
-) -> [[u64; 64]; 9]
+    table: &mut [[u64; 64]; 9],
+)
     requires { ⌜ Ready sizes (now chain) (now rewards) × (sizes .highest ≤ 8) × (1 ≤ n) × (n ≤ 1024) ⌝ }
-    requires { ⌜ table ≡ tableOf (arrays sizes (now chain) (now rewards)) (sizes .highest) (n - 1) ⌝ }
-    ensures { λ t. ⌜ t ≡ tableOf (arrays sizes (now (chain .entry)) (now (rewards .entry))) (sizes .highest) n ⌝ }
+    requires { ⌜ now table ≡ tableOf (arrays sizes (now chain) (now rewards)) (sizes .highest) (n - 1) ⌝ }
+    ensures { λ t. ⌜ now (table .exit) ≡ tableOf (arrays sizes (now (chain .entry)) (now (rewards .entry))) (sizes .highest) n ⌝ }
 {
     let highest = sizes.highest;
-    let zeros = [0u64; 64];
-    let mut next = [zeros; 9];
-    next[0] = ones(sizes.states);
     for r in 1..highest + 1 {
         let before = table[r];
-        let same = next[r - 1];
-        next[r] = step(sizes, chain, rewards, n, r as u64, before, same);
+        let same = table[r - 1];
+        table[r] = step(sizes, chain, rewards, n, r as u64, before, same);
     }
-    next
 }

@@ -8,45 +8,59 @@ use lib.ListN.{getD}
 use Rattle.definitions.specs.Sums.{sum}
 use Rattle.definitions.specs.Vectors.{rowMean}
 use Rattle.laws.specs.SumLaws.{sum-zero, sum-more, sum-part}
+use Rattle.laws.specs.ChainLaws.{in-square, square-max}
 use Rattle.vectors.proofs.row_mean.Statement.{statement}
 use Rattle.vectors.proofs.row_mean.Tie as tie
 
-abbrev product : List ℕ → List ℕ → ℕ → ℕ → ℕ
-product chain v i j = getD chain (i * 64 + j) 0 * getD v j 0
+abbrev product : List ℕ → List ℕ → ℕ → ℕ → ℕ → ℕ
+product chain v M i j = getD chain (i * M + j) 0 * getD v j 0
 
 abbrev Inv-loop : tie.InvT-loop
-Inv-loop sizes chain v i states total₀ j₀ total j = (total ≡ sum j (product chain v i)) × (j ≤ states)
+Inv-loop sizes chain v i states total₀ j₀ total j = (total ≡ sum j (product chain v states i)) × (j ≤ states)
 
 abbrev μ-loop : tie.MeasureT-loop
 μ-loop sizes chain v i states total₀ j₀ total j = states - j
 
--- with one product more the total is still a part of the row's sum
-within : (c : tie.After-total2 Inv-loop μ-loop) →
-    let args = c .before .before .before .before .args in
-    let turn = c .before .before .before .loop in
-    turn .total + product (now (args .chain)) (now (args .v)) (args .i) (turn .j) < 2 ^ 64
-within c =
-    let args = c .before .before .before .before .args in
-    let turn = c .before .before .before .loop in
-    let row = product (now (args .chain)) (now (args .v)) (args .i) in
-    omega (arith, sum-more (turn .j) row, sum-part (turn .j + 1) (args .sizes .states) row (omega arith))
+-- the products of the row
+abbrev row : tie.Start Inv-loop μ-loop → ℕ → ℕ
+row start = product (now (start .args .chain)) (now (start .args .v)) (start .args .sizes .states) (start .args .i)
 
 loop-holds : tie.Need-loop-holds Inv-loop μ-loop
-loop-holds c = (omega (arith, sum-zero (product (now (c .args .chain)) (now (c .args .v)) (c .args .i))), omega arith)
+loop-holds c = (omega (arith, sum-zero (row (c .before))), omega arith)
+
+-- the place of an entry is below M × M, which is at most 4,096
+module _ (c : tie.In-loop Inv-loop μ-loop) where
+  abbrev start : tie.Start Inv-loop μ-loop
+  start = c .before .before .before
+
+  place-max : start .args .i * start .args .sizes .states + c .before .loop .j < start .args .sizes .states * start .args .sizes .states
+  place-max = in-square (start .args .i) (c .before .loop .j) (start .args .sizes .states) (omega arith) (omega arith)
+
+  count-max : start .args .sizes .states * start .args .sizes .states ≤ 4096
+  count-max = square-max (start .args .sizes .states) (omega arith)
+
+-- with one product more the total is still a part of the row's sum
+module _ (c : tie.After-wide Inv-loop μ-loop) where
+  abbrev begin : tie.Start Inv-loop μ-loop
+  begin = start (c .before .before)
+
+  added : c .wide .result * getD (now (begin .args .v)) (c .before .before .before .loop .j) 0 ≡ row begin (c .before .before .before .loop .j)
+  added = ap (λ (n : ℕ). n * getD (now (begin .args .v)) (c .before .before .before .loop .j) 0) (c .wide .ensures)
+
+  within : c .before .before .before .loop .total + row begin (c .before .before .before .loop .j) < 2 ^ 64
+  within = omega (arith, sum-more (c .before .before .before .loop .j) (row begin), sum-part (c .before .before .before .loop .j + 1) (begin .args .sizes .states) (row begin) (omega arith))
 
 loop-again : tie.Need-loop-again Inv-loop μ-loop
 loop-again c =
-    let args = c .before .before .before .before .args in
-    let j = c .before .before .before .loop .j in
-    (omega (arith, sum-more j (product (now (args .chain)) (now (args .v)) (args .i))), omega arith)
+    let product = c .before in
+    (omega (arith, added product, sum-more (product .before .before .before .loop .j) (row (begin product))), omega arith)
 
 returns : tie.Need-returns Inv-loop μ-loop
 unfolding rowMean
 returns c = λ f.
-    let args = c .before .before .before .args in
-    let row = product (now (args .chain)) (now (args .v)) (args .i) in
-    let all : c .before .before .loop .j ≡ args .sizes .states = omega arith in
-    omega (arith, ap (λ (n : ℕ). n / args .sizes .rate) (c .before .before .loop .inv .0 ∙ ap (λ (n : ℕ). sum n row) all))
+    let begin = c .before .before .before .before in
+    let all : c .before .before .loop .j ≡ begin .args .sizes .states = omega arith in
+    omega (arith, ap (λ (n : ℕ). n / begin .args .sizes .rate) (c .before .before .loop .inv .0 ∙ ap (λ (n : ℕ). sum n (row begin)) all))
 
 pub row-mean-spec : {M : Type 1} → statement M
 row-mean-spec =
@@ -55,14 +69,15 @@ row-mean-spec =
     Inv-loop
     μ-loop
     loop-holds
+    (λ c. omega (arith, place-max c, count-max c))
+    (λ c. omega (arith, place-max c, count-max c))
+    (λ c. omega (arith, place-max c, count-max c))
+    (λ c. omega (arith, place-max (c .before)))
+    (λ c κs. tt)
     (λ c. omega arith)
     (λ c. omega arith)
-    (λ c. omega arith)
-    (λ c. omega arith)
-    (λ c. omega arith)
-    (λ c. omega arith)
-    (λ c. omega (arith, within c))
-    (λ c. omega (arith, within c))
+    (λ c. omega (arith, added (c .before), within (c .before)))
+    (λ c. omega (arith, added (c .before), within (c .before)))
     (λ c. omega arith)
     (λ c. omega arith)
     loop-again

@@ -27,21 +27,21 @@ u start =
 
 loop-holds : tie.Need-loop-holds Inv-loop μ-loop
 unfolding zeros
-loop-holds c = (omega arith, sym (over-none (u c) (zeros 64)))
+loop-holds c = (omega arith, sym (over-none (u (c .before)) (zeros 64)))
 
 row-mean-requires : tie.Need-row-mean-requires Inv-loop μ-loop
-row-mean-requires c κs = row-ready (c .before .before .before .pre) (c .before .before .loop .i) (omega arith)
+row-mean-requires c κs = row-ready (c .before .before .before .before .pre) (c .before .before .loop .i) (omega arith)
 
 reward-share-requires : tie.Need-reward-share-requires Inv-loop μ-loop
 reward-share-requires c κs =
-    let given = c .before .before .before .before .before .pre in
+    let given = c .before .before .before .before .before .before .pre in
     let i = c .before .before .before .before .loop .i in
     omega (arith, given .ready .rewards .reward i (omega arith), given .same-ticks .below i (omega arith))
 
 mix-requires : tie.Need-mix-requires Inv-loop μ-loop
 unfolding rewardShare
 mix-requires c κs =
-    let start = c .before .before .before .before .before .before in
+    let start = c .before .before .before .before .before .before .before in
     let mean = c .before .before .row-mean in
     mix-ready (start .pre) (c .before .before .before .before .before .loop .i) (omega arith) (mean .result) (c .reward-share .result)
     (mean .ensures (now (start .args .rewards))) (c .reward-share .ensures)
@@ -49,7 +49,7 @@ mix-requires c κs =
 loop-again : tie.Need-loop-again Inv-loop μ-loop
 unfolding rewardShare nextEntry
 loop-again c =
-    let start = c .before .before .before .before .before .before .before in
+    let start = c .before .before .before .before .before .before .before .before in
     let turn = c .before .before .before .before .before .before .loop in
     let args = start .args in (
       omega arith,
@@ -59,7 +59,7 @@ loop-again c =
 
 returns : tie.Need-returns Inv-loop μ-loop
 returns c =
-    let start = c .before .before in
+    let start = c .before .before .before in
     let turn = c .before .loop in
     let all : turn .i ≡ start .args .sizes .states = omega arith in
     rw all at (turn .inv .1) ∙ over-padded _ (u start) (omega arith)
