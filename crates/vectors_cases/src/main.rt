@@ -37,26 +37,26 @@ fn accepted_vectors(file: &[u8], last: u64)
 {
     let sums = reader::row_sums(file);
     let sizes = reader::sizes_of(file, &sums);
-    let chain = reader::chain_of(file, &sums, sizes.rate);
+    let mut chain = [0u32; 4096];
+    reader::write_chain(file, &sums, sizes.rate, &mut chain);
     let rewards = reader::rewards_of(file);
     tables(sizes, &chain, &rewards, last);
 }
 
 // Those of a chain that stands in arrays.
-fn tables(sizes: Sizes, chain: &[u64; 4096], rewards: &[u64; 64], last: u64)
+fn tables(sizes: Sizes, chain: &[u32], rewards: &[u64; 64], last: u64)
     requires { ⌜ Ready sizes (now chain) (now rewards) × (sizes .highest ≤ 8) × (last ≤ 1024) ⌝ }
 {
     let mut current = vectors::first_table(sizes, rewards);
-    table(sizes, 0, last, current);
+    table(sizes, 0, last, &current);
     for n in 1..last + 1 {
-        let next = vectors::next_table(sizes, chain, rewards, n, current);
-        table(sizes, n, last, next);
-        current = next;
+        vectors::next_table(sizes, chain, rewards, n, &mut current);
+        table(sizes, n, last, &current);
     }
 }
 
 // The lines of one n, where it is at most 3 or the last.
-fn table(sizes: Sizes, n: u64, last: u64, rows: [[u64; 64]; 9])
+fn table(sizes: Sizes, n: u64, last: u64, rows: &[[u64; 64]; 9])
     requires { ⌜ (sizes .states ≤ 64) × (sizes .highest ≤ 8) ⌝ }
 {
     if n > 3 && n < last {

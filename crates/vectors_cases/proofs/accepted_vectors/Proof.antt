@@ -1,20 +1,31 @@
 -- The arrays that are read of an accepted file are ready for the steps.
-use mathlib.Core.Path.{ap}
+use mathlib.Core.Path.{_≡_, refl, ap}
+use Prim.Native.Nat.{ℕ}
 use native.Mathlib.Omega.{arith}
 use borrow.Author.Needs.{needs}
+use lib.ListN.{length-replicate}
 use Rattle.definitions.specs.declared.Sizes.{Sizes}
+use Rattle.definitions.specs.Chain.{modelOf, uniformRate}
+use Rattle.laws.specs.ChainLaws.{square-max}
 use Rattle.vectors.specs.ModelLaws.{model-ready}
 use Rattle.vectors_cases.proofs.accepted_vectors.Statement.{statement}
 use Rattle.vectors_cases.proofs.accepted_vectors.Tie as tie
 
-chain-of-requires : tie.Need-chain-of-requires
-chain-of-requires c κs = (search needs, (search needs, ap (λ (z : Sizes). z .rate) (c .before .sizes-of .ensures)))
+write-chain-requires : tie.Need-write-chain-requires
+write-chain-requires c κs =
+    let start = c .before .before .before .before .before .before in
+    let rate : c .before .before .sizes-of .result .rate ≡ uniformRate (modelOf (start .args .file .now)) = ap (λ (z : Sizes). z .rate) (c .before .before .sizes-of .ensures) in
+    ((start .pre .0 .framed, square-max _ (start .pre .0 .framed .states-max)), (c .before .before .before .before .row-sums .ensures, (rate, omega (arith, start .pre .0 .limits .rate-max))))
 
 tables-requires : tie.Need-tables-requires
 tables-requires c κs =
-    let sizes = c .before .before .before .before .before .sizes-of .ensures in
-    let limits = c .before .before .before .before .before .before .before .before .before .pre .0 .limits in
-    (rw (sizes, c .before .before .before .chain-of .ensures, c .before .before .rewards-of .ensures) (model-ready _ limits), rw sizes (limits .highest-max), omega arith)
+    let sizes = c .before .before .before .before .before .before .before .sizes-of .ensures in
+    let start = c .before .before .before .before .before .before .before .before .before .before .before in
+    let given = start .pre .0 in (
+      rw (sizes, c .before .before .before .before .write-chain .ensures, c .before .before .rewards-of .ensures) (model-ready _ _ (given .limits) (omega (arith, length-replicate {A = ℕ} 4096 0, square-max _ (given .framed .states-max)))),
+      rw sizes (given .limits .highest-max),
+      omega arith,
+    )
 
 pub accepted-vectors-spec : {M : Type 1} → statement M
 accepted-vectors-spec =
@@ -22,7 +33,9 @@ accepted-vectors-spec =
     (tie.spec
     (λ c κs. search needs)
     (λ c κs. search needs)
-    chain-of-requires
+    (λ c. refl)
+    write-chain-requires
     (λ c κs. search needs)
+    (λ c. search needs)
     tables-requires
     (λ c. search needs))

@@ -17,9 +17,9 @@ abbrev μ-loop : tie.MeasureT-loop
 
 loop-again : tie.Need-loop-again Inv-loop μ-loop
 loop-again c =
-    let n = c .before .before .before .loop .n in
+    let n = c .before .before .before .before .before .loop .n in
     let back : n + 1 - 1 ≡ n = omega arith in
-    (omega arith, omega arith, rw back (c .before .next-table .ensures))
+    (omega arith, omega arith, rw back (c .before .before .next-table .ensures))
 
 pub tables-spec : {M : Type 1} → statement M
 tables-spec =
@@ -27,11 +27,11 @@ tables-spec =
     (tie.spec
     Inv-loop
     μ-loop
-    (λ c κs. (c .pre .0 .rewards, c .pre .1))
+    (λ c κs. (c .before .pre .0 .rewards, c .before .pre .1))
     (λ c κs. search needs)
     (λ c. omega arith)
-    (λ c. (omega arith, omega arith, c .before .first-table .ensures (c .before .before .args .chain .now)))
-    (λ c κs. ((c .before .before .before .before .pre .0, omega arith, omega arith, omega arith), c .before .loop .inv .2))
+    (λ c. (omega arith, omega arith, c .before .before .first-table .ensures (c .before .before .before .before .args .chain .now)))
+    (λ c κs. ((c .before .before .before .before .before .before .before .pre .0, omega arith, omega arith, omega arith), c .before .before .loop .inv .2))
     (λ c κs. search needs)
     (λ c. omega arith)
     (λ c. omega arith)
