@@ -1,6 +1,6 @@
 -- The uniformized chain: each row of c sums to E, f ≤ F, and the arrays that hold a chain.
 use Prim.Native.Nat.{ℕ, zero, suc, _+_, _*_, _-_, _≤_, _<_}
-use native.Mathlib.Nat.{mul-le-mul, mul-le-mul-right}
+use native.Mathlib.Nat.{mul-le-mul}
 use native.Mathlib.Omega.{arith}
 use native.Mathlib.Decide.{ℕ-discrete}
 use mathlib.Core.Path.{_≡_, refl, _∙_, ap₂}
@@ -11,7 +11,7 @@ use borrow.Author.Tests.{eq-eqb, ne-eqb, lt-ltb}
 use Rattle.definitions.specs.Sums.{sum, pick}
 use Rattle.definitions.specs.Chain.{Model, jumpRate, rowSum, uniformRate, c, maxReward, Chain, chainOf, padded, flatEntry, flat, arrays, sizesOf}
 use Rattle.laws.specs.SumLaws.{sum-same, le-largest}
-use Rattle.laws.specs.Rounding.{quotient-unique, remainder-unique}
+use Rattle.laws.specs.Rounding.{row-of-place, place-in-row, place-below}
 use Rattle.laws.specs.ListLaws.{getD-firsts, getD-over}
 
 -- what changes at the diagonal alone changes the sum by that much
@@ -52,22 +52,18 @@ pub getD-padded : (M : ℕ) (v : ℕ → ℕ) (i : ℕ) → M ≤ 64 → i < M �
 unfolding padded
 getD-padded M v i h l = getD-firsts 0 64 (λ j. pick (ltb j M) (v j) 0) i (omega arith) ∙ rw (lt-ltb i M l)
 
--- c(i,j) stands at i × M + j, before M × M
-pub in-square : (i j M : ℕ) → i < M → j < M → i * M + j < M * M
-in-square i j M li lj = omega (arith, mul-le-mul-right M li)
-
--- and c has at most 4,096 entries
+-- c has at most 4,096 entries
 pub square-max : (M : ℕ) → M ≤ 64 → M * M ≤ 4096
 square-max M h = mul-le-mul h h
 
+-- c(i,j) stands at i × M + j
 pub flat-entry : (ch : Chain) (i j : ℕ) → j < ch .states → flatEntry ch (i * ch .states + j) ≡ ch .entry i j
 unfolding flatEntry
-flat-entry ch i j l =
-    ap₂ (ch .entry) (quotient-unique _ (ch .states) i j l refl) (remainder-unique _ (ch .states) i j l refl)
+flat-entry ch i j l = ap₂ (ch .entry) (row-of-place i j (ch .states) l) (place-in-row i j (ch .states) l)
 
 pub getD-flat : (ch : Chain) (l : List ℕ) (i j : ℕ) → i < ch .states → j < ch .states → getD (flat ch l) (i * ch .states + j) 0 ≡ ch .entry i j
 unfolding flat
-getD-flat ch l i j li lj = getD-over 0 (ch .states * ch .states) (flatEntry ch) l (i * ch .states + j) (in-square i j (ch .states) li lj) ∙ flat-entry ch i j lj
+getD-flat ch l i j li lj = getD-over 0 (ch .states * ch .states) (flatEntry ch) l (i * ch .states + j) (place-below i j (ch .states) (ch .states) li lj) ∙ flat-entry ch i j lj
 
 -- two chains that agree at every pair of states
 pub record SameChain (a b : Chain) : Type 0 where

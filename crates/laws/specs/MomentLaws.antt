@@ -1,7 +1,7 @@
 -- The moments: their cells, and the last quotient.
 use Prim.Native.Nat.{ℕ, suc, _+_, _*_, _-_, _/_, _%_, _≤_, _<_}
 use native.Mathlib.Omega.{arith}
-use native.Mathlib.Nat.{mul-le-mul, mul-le-mul-left, mul-le-mul-right}
+use native.Mathlib.Nat.{mul-le-mul, mul-le-mul-left}
 use mathlib.Core.Path.{_≡_, refl, sym, _∙_, ap, ap₂}
 use mathlib.Core.List.{List}
 use lib.ListN.{getD}
@@ -11,7 +11,7 @@ use Rattle.definitions.specs.Vectors.{ONE}
 use Rattle.definitions.specs.Weights.{mode, weight, weightSum}
 use Rattle.definitions.specs.Moment.{term, weighted, lastQuotient, weightedMean, moment, cellOf, cell, modelLevel, outcome}
 use Rattle.definitions.specs.Rules.{Answer, accepted, refused, rows, judgement}
-use Rattle.laws.specs.Rounding.{quotient-at-most, quotient-unique, quotient-below, remainder-below, remainder-unique}
+use Rattle.laws.specs.Rounding.{quotient-at-most, quotient-below, remainder-below, row-of-place, place-in-row, place-below}
 use Rattle.laws.specs.Nearest.{nearest-within, nearest-at-most, nearest-by-halves}
 use Rattle.laws.specs.SumLaws.{sum-mono}
 use Rattle.laws.specs.RuleLaws.{accepted-is-no-refusal, other-value}
@@ -19,14 +19,7 @@ use Rattle.laws.specs.ListLaws.{getD-over}
 use Rattle.laws.specs.WeightLaws.{weightSum-min}
 use Rattle.laws.specs.AverageBound.{LastQuotient}
 
--- the state and the r of a cell
-cell-state : (R i k : ℕ) → k < R → (i * R + k) / R ≡ i
-cell-state R i k h = quotient-unique (i * R + k) R i k h refl
-
-cell-moment : (R i k : ℕ) → k < R → (i * R + k) % R ≡ k
-cell-moment R i k h = remainder-unique (i * R + k) R i k h refl
-
--- those of a cell below M × R are within M and R
+-- the r and the state of a cell below M × R are within R and M
 pub row-of-cell : (k R : ℕ) → 1 ≤ R → k % R + 1 ≤ R
 row-of-cell k R low = omega (arith, remainder-below k R low)
 
@@ -37,20 +30,20 @@ state-of-cell k M R h = quotient-below k M R h
 pub count-max : (M R : ℕ) → M ≤ 64 → R ≤ 8 → M * R ≤ 512
 count-max M R h l = omega (arith, mul-le-mul h l)
 
-cell-in : (M R i k : ℕ) → i < M → k < R → i * R + k < M * R
-cell-in M R i k h l = omega (arith, mul-le-mul-right R h)
+-- the r of the cell of state i and moment r
+pub moment-of-cell : (i r R : ℕ) → 1 ≤ r → r ≤ R → (i * R + (r - 1)) % R + 1 ≡ r
+moment-of-cell i r R low high = omega (arith, place-in-row i (r - 1) R (omega arith))
 
--- the cell of state i and moment r holds that moment
+-- that cell holds the moment
 pub cell-holds : (m : Model) (N i r : ℕ) → 1 ≤ r → r ≤ m .highest → cell m N (cellOf m i r) ≡ moment m N r i
 unfolding cell cellOf
 cell-holds m N i r low high =
-    let back : r - 1 + 1 ≡ r = omega arith in
-    ap₂ (moment m N) (ap (λ (x : ℕ). x + 1) (cell-moment (m .highest) i (r - 1) (omega arith)) ∙ back) (cell-state (m .highest) i (r - 1) (omega arith))
+    ap₂ (moment m N) (moment-of-cell i r (m .highest) low high) (row-of-place i (r - 1) (m .highest) (omega arith))
 
 -- in the cells after a call
 pub getD-moment : (m : Model) (N i r : ℕ) (cells : List ℕ) → i < m .states → 1 ≤ r → r ≤ m .highest → getD (over (m .states * m .highest) (cell m N) cells) (cellOf m i r) 0 ≡ moment m N r i
 getD-moment m N i r cells l low high =
-    getD-over 0 (m .states * m .highest) (cell m N) cells (cellOf m i r) (unfold cellOf in cell-in (m .states) (m .highest) i (r - 1) l (omega arith))
+    getD-over 0 (m .states * m .highest) (cell m N) cells (cellOf m i r) (unfold cellOf in place-below i (r - 1) (m .states) (m .highest) l (omega arith))
     ∙ cell-holds m N i r low high
 
 -- A is at most S where no u is above ONE

@@ -1,6 +1,6 @@
 -- Quotient and remainder, argued once for any divisor: every other proof cites these. `a / 0` is 0, so a law that needs a divisor says `0 < c`.
 -- Assumes nothing.
-use mathlib.Core.Path.{_≡_, ap, ap₂}
+use mathlib.Core.Path.{_≡_, refl, ap, ap₂}
 use Prim.Native.Nat.{ℕ, zero, suc, _+_, _-_, _*_, _/_, _%_, _<_, _≤_}
 use native.Mathlib.Nat.{div-mul-le-self, lt-div-mul-add, le-div-iff-mul-le, div-lt-iff-lt-mul, div-eq-of-lt-le, div-zero, div-add-mod', mod-lt, mul-le-mul-right}
 use native.Mathlib.Omega.{arith}
@@ -47,6 +47,16 @@ remainder-unique a c q r rest whole =
 -- from k divisors on, and below one more: the divisor goes k times into the number
 pub between-multiples : (a c k : ℕ) → k * c ≤ a → a < k * c + c → (a / c ≡ k) × (a % c ≡ a - k * c)
 between-multiples a c k low high = (quotient-unique a c k (a - k * c) (omega arith) (omega arith), remainder-unique a c k (a - k * c) (omega arith) (omega arith))
+
+-- rows of c places, one after the other: place k of row i is place i × c + k, before the end of the last row
+pub row-of-place : (i k c : ℕ) → k < c → (i * c + k) / c ≡ i
+row-of-place i k c h = quotient-unique (i * c + k) c i k h refl
+
+pub place-in-row : (i k c : ℕ) → k < c → (i * c + k) % c ≡ k
+place-in-row i k c h = remainder-unique (i * c + k) c i k h refl
+
+pub place-below : (i k rows c : ℕ) → i < rows → k < c → i * c + k < rows * c
+place-below i k rows c h l = omega (arith, mul-le-mul-right c h)
 
 -- the quotient of a product by k × k, from both factors cut at k: what the lower parts carry goes to the middle products, and what these carry to the upper one
 pub quotient-in-parts : (a b k : ℕ) → 0 < k → a * b / (k * k) ≡ a / k * (b / k) + (a / k * (b % k) + a % k * (b / k) + a % k * (b % k) / k) / k

@@ -6,7 +6,8 @@ use native.Mathlib.Omega.{arith}
 use lib.ListN.{length, length-set}
 use Rattle.definitions.specs.File.{stateCount}
 use Rattle.definitions.specs.Chain.{modelOf, chainOf, flatEntry}
-use Rattle.laws.specs.ChainLaws.{in-square, square-max}
+use Rattle.laws.specs.Rounding.{place-below}
+use Rattle.laws.specs.ChainLaws.{square-max}
 use Rattle.reader.specs.Framed.{row-room, entry-room}
 use Rattle.reader.specs.Rows.{filledTo, chainRows, entry-is, filled-more, row-done}
 use Rattle.reader.proofs.write_row.Statement.{statement}
@@ -52,7 +53,7 @@ module _ (c : tie.After-entry-in Inv-loop μ-loop) where
   read = c .before .before .before .before .state-count .ensures
 
   place-max : place < M * M
-  place-max = in-square (start .args .i) (c .before .before .loop .j) M (omega arith) (omega arith)
+  place-max = place-below (start .args .i) (c .before .before .loop .j) M M (omega arith) (omega arith)
 
   square : M * M ≡ stateCount (start .args .file .now) * stateCount (start .args .file .now)
   square = ap₂ _*_ read read

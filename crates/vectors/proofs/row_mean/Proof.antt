@@ -8,7 +8,8 @@ use lib.ListN.{getD}
 use Rattle.definitions.specs.Sums.{sum}
 use Rattle.definitions.specs.Vectors.{rowMean}
 use Rattle.laws.specs.SumLaws.{sum-zero, sum-more, sum-part}
-use Rattle.laws.specs.ChainLaws.{in-square, square-max}
+use Rattle.laws.specs.Rounding.{place-below}
+use Rattle.laws.specs.ChainLaws.{square-max}
 use Rattle.vectors.proofs.row_mean.Statement.{statement}
 use Rattle.vectors.proofs.row_mean.Tie as tie
 
@@ -34,7 +35,7 @@ module _ (c : tie.In-loop Inv-loop μ-loop) where
   start = c .before .before .before
 
   place-max : start .args .i * start .args .sizes .states + c .before .loop .j < start .args .sizes .states * start .args .sizes .states
-  place-max = in-square (start .args .i) (c .before .loop .j) (start .args .sizes .states) (omega arith) (omega arith)
+  place-max = place-below (start .args .i) (c .before .loop .j) (start .args .sizes .states) (start .args .sizes .states) (omega arith) (omega arith)
 
   count-max : start .args .sizes .states * start .args .sizes .states ≤ 4096
   count-max = square-max (start .args .sizes .states) (omega arith)
