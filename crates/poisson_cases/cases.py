@@ -48,6 +48,11 @@ def level(X, w, tolerance):
                 return n, S
 
 
+def array(w, N):
+    """What stands in an array of zeros after the search: w(0) to w(N), and 0 past N."""
+    return w[: N + 1] + [0] * (LAST - N)
+
+
 def checksum(w):
     c = 0
     for x in w:
@@ -63,4 +68,4 @@ print("B", *w[:4], level(MILLION, w, 100_000_000)[0])
 for X, tolerance in CASES:
     w = weights(X)
     N, S = level(X, w, tolerance)
-    print(X, tolerance, N, S, checksum(w))
+    print(X, tolerance, N, S, checksum(array(w, N)))

@@ -1,53 +1,50 @@
--- The array of weights as it fills, over plain lists. Assumes nothing.
-use mathlib.Core.Path.{_≡_, _∙_, sym, ap₂}
-use mathlib.Core.List.{List}
-use Prim.Native.Nat.{ℕ, _+_, _-_, _*_, _≤_, _<_}
+-- The weights as they are added and stored, over plain numbers and lists. Assumes nothing.
+use mathlib.Core.Path.{_≡_, sym, ap, _∙_}
+use mathlib.Core.List.{List, [], _∷_, append-assoc}
+use Prim.Native.Nat.{ℕ, suc, _+_, _≤_, _<_}
 use native.Mathlib.Omega.{arith}
-use native.Mathlib.Nat.{le-refl}
+use native.Mathlib.Numerals.{add-one}
 use native.Mathlib.Decide.{decLt}
-use lib.ListN.{set}
-use borrow.Author.Tests.{lt-ltb, le-ltb}
-use Rattle.definitions.specs.Sums.{firsts, over}
-use Rattle.definitions.specs.Weights.{GREATEST, mode, weight}
-use Rattle.laws.specs.LevelLaws.{LEVELS}
-use Rattle.laws.specs.ListLaws.{firsts-same, firsts-store, over-none, over-store, over-further}
-use Rattle.laws.specs.ArrayLaws.{zeros, length-zeros, zero-at, over-zeros}
-use Rattle.laws.specs.WeightLaws.{weight-gone, weight-mode}
-use Rattle.poisson.specs.Stages.{weightsFrom}
+use lib.ListN.{length, getD, set, length-set}
+use lib.Seq.{drop-cons, drop-set-lt, getD-set-same, ext-getD}
+use Rattle.definitions.specs.Sums.{sum, firsts, over}
+use Rattle.definitions.specs.Weights.{GREATEST, mode, weight, weightSum}
+use Rattle.laws.specs.SumLaws.{sum-more, sum-suc}
+use Rattle.laws.specs.ListLaws.{length-over, getD-over, getD-over-past}
+use Rattle.laws.specs.WeightLaws.{weight-mode}
 
-module _ (m X : ℕ) where
-  below : (i : ℕ) → i < m → weightsFrom m X i ≡ 0
-  unfolding weightsFrom
-  below i l = rw (lt-ltb i m l)
+-- S(m) is w(m) and the weights below m
+pub sum-first : (X : ℕ) → GREATEST + sum (mode X) (weight X) ≡ weightSum X (mode X)
+unfolding weightSum
+sum-first X = omega (arith, sum-suc (mode X) (weight X), weight-mode X)
 
-  pub above : (i : ℕ) → m ≤ i → weightsFrom m X i ≡ weight X i
-  unfolding weightsFrom
-  above i l = rw (le-ltb i m l)
+module _ (f : ℕ → ℕ) (k n : ℕ) (after : n ≡ k + 1) where
+  -- the last of n terms
+  pub sum-last : sum n f ≡ sum k f + f k
+  sum-last = rw after (sum-more k f)
 
-  -- w(m) in an array of zeros
-  pub first : m ≡ mode X → m < LEVELS → set (zeros LEVELS) m GREATEST ≡ over (m + 1) (weightsFrom m X) (zeros LEVELS)
-  first e room =
-      over-store m (weightsFrom m X) (zeros LEVELS) (zeros LEVELS) GREATEST (omega (arith, length-zeros LEVELS))
-      (sym (over-none (weightsFrom m X) (zeros LEVELS)) ∙ over-further 0 0 m (weightsFrom m X) (zeros LEVELS) (omega arith) (omega (arith, length-zeros LEVELS)) (λ k p l. below k l ∙ sym (zero-at LEVELS k)))
-      (sym (above m (le-refl m) ∙ rw e (weight-mode X)))
+  -- the last of n entries, stored with the k below it still to come
+  pub store-last : (l : List ℕ) (v : ℕ) → k < length l → v ≡ f k → over k f (set l k v) ≡ over n f l
+  unfolding over firsts
+  store-last l v h e =
+      rw (after, add-one, drop-cons (set l k v) k 0 (omega (arith, length-set l k v)), getD-set-same l k v 0 h, drop-set-lt (suc k) l k v (omega arith), e)
+      (sym (append-assoc (firsts k f) (f k ∷ []) _))
 
-  -- past 2m + 51 the zeros are the weights
-  pub gone : (n : ℕ) (w : List ℕ) → m ≡ mode X → 2 * m + 51 ≤ n → n ≤ LEVELS → w ≡ over n (weightsFrom m X) (zeros LEVELS) → w ≡ firsts LEVELS (weightsFrom (mode X) X)
-  gone n w e far room so = rw (← e) (so ∙ over-zeros n LEVELS (weightsFrom m X) room (λ k p l. above k (omega arith) ∙ weight-gone X k (omega arith)))
-
--- one weight more on the left
-pub one-left : (n X : ℕ) (w : List ℕ) (v : ℕ) → 1 ≤ n → n ≤ LEVELS → w ≡ firsts LEVELS (weightsFrom n X) → v ≡ weight X (n - 1) → set w (n - 1) v ≡ firsts LEVELS (weightsFrom (n - 1) X)
-one-left n X w v pos room so e =
-    ap₂ (λ (l : List ℕ) (x : ℕ). set l (n - 1) x) so (e ∙ sym (above (n - 1) X (n - 1) (le-refl (n - 1))))
-    ∙ firsts-store 0 LEVELS (weightsFrom n X) (weightsFrom (n - 1) X) (n - 1) (omega arith) (λ i l d. other i d)
+-- filled up to n, then up to k: as if filled up to k at once
+pub over-again : (f : ℕ → ℕ) (n k : ℕ) (l now : List ℕ) → n ≤ k → k ≤ length l → now ≡ over n f l → over k f now ≡ over k f l
+over-again f n k l now low room e =
+    ap (over k f) e
+    ∙ ext-getD 0 (over k f (over n f l)) (over k f l) (length-over k f (over n f l) (omega (arith, filled)) ∙ filled ∙ sym (length-over k f l room)) (λ i b. same i)
   where
-    other : (i : ℕ) → (i ≡ n - 1 → ⊥) → weightsFrom n X i ≡ weightsFrom (n - 1) X i
-    other i d =
-        elim (decLt i n) [
-          | yes l ↦ below n X i l ∙ sym (below (n - 1) X i (omega (arith, d)))
-          | no q ↦ above n X i (omega (arith, q)) ∙ sym (above (n - 1) X i (omega (arith, q)))
-        ]
+    filled : length (over n f l) ≡ length l
+    filled = length-over n f l (omega arith)
 
--- from 0 on: the definition at every index
-pub all-weights : (X : ℕ) → firsts LEVELS (weightsFrom 0 X) ≡ firsts LEVELS (weight X)
-all-weights X = firsts-same LEVELS (weightsFrom 0 X) (weight X) (λ i l. above 0 X i (omega arith))
+    same : (i : ℕ) → getD (over k f (over n f l)) i 0 ≡ getD (over k f l) i 0
+    same i =
+        elim (decLt i k) [
+          | yes b ↦ getD-over 0 k f (over n f l) i b ∙ sym (getD-over 0 k f l i b)
+          | no p ↦
+              getD-over-past 0 k f (over n f l) i (omega (arith, p))
+              ∙ getD-over-past 0 n f l i (omega (arith, p))
+              ∙ sym (getD-over-past 0 k f l i (omega (arith, p)))
+        ]

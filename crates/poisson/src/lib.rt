@@ -5,11 +5,12 @@
 // away from m is one multiplication and one division, rounded down.
 ghost use mathlib.Core.Path.{_≡_};
 ghost use Prim.Native.Nat.{_+_, _-_, _≤_, _<_};
-ghost use Rattle.definitions.specs.Sums.{firsts};
+ghost use lib.ListN.{length};
+ghost use Rattle.definitions.specs.Sums.{over};
 ghost use Rattle.definitions.specs.Weights.{mode, weight, weightSum};
 ghost use Rattle.definitions.specs.Level.{passes?};
 ghost use Rattle.laws.specs.LevelLaws.{LEVELS};
-ghost use Rattle.poisson.specs.Stages.{weightsFrom, Truncated};
+ghost use Rattle.poisson.specs.Stages.{Truncated};
 
 // One jump in millionths.
 const MILLION: u64 = 1_000_000;
@@ -23,34 +24,50 @@ const BILLION: u64 = 1_000_000_000;
 // Levels 0 to 563: x is at most 256,000,000, so m is at most 256, and no level is above 2m + 51.
 pub const LEVELS: usize = 564;
 
-// w(0) to w(563): first those from m on. Past 2m + 51 they are 0.
-pub fn weights(x: u64) -> [u64; LEVELS]
-    requires { ⌜ (1 ≤ x) × (x ≤ 256000000) ⌝ }
-    ensures { λ r. ⌜ r ≡ firsts LEVELS (weight x) ⌝ }
-{
-    let m = mode_of(x) as usize;
-    let mut w = [0u64; LEVELS];
-    w[m] = GREATEST;
-    let mut n = m;
-    while n < 2 * m + 51 {
-        w[n + 1] = step_right(w[n], x, n as u64);
-        n += 1;
-    }
-    leftward(x, w)
+// Where the sum over n is cut off: the level N, and S(N).
+pub struct Truncation {
+    pub level: u64,
+    pub sum: u64,
 }
 
-// The weights left of m, in an array that has the others.
-fn leftward(x: u64, w: [u64; LEVELS]) -> [u64; LEVELS]
-    requires { ⌜ (x ≤ 256000000) × (w ≡ firsts LEVELS (weightsFrom (mode x) x)) ⌝ }
-    ensures { λ r. ⌜ r ≡ firsts LEVELS (weight x) ⌝ }
+// The level N, which is the least n that passes, and S(N). w(0) to w(N) are written into the array;
+// its entries past N stay. Left of m all weights are needed; right of it, each is computed when the
+// search comes to it. No n below m passes, and 2m + 51 does: the search is from m to there at most.
+pub fn truncate(x: u64, tolerance: u64, weights: &mut [u64; LEVELS]) -> Truncation
+    requires { ⌜ (1 ≤ x) × (x ≤ 256000000) × (1 ≤ tolerance) × (tolerance ≤ 100000000) ⌝ }
+    ensures { λ r. ⌜ Truncated x tolerance (r .level) (r .sum) (now (weights .entry)) (now (weights .exit)) ⌝ }
 {
-    let mut w = w;
-    let mut n = mode_of(x) as usize;
-    while n > 0 {
-        w[n - 1] = step_left(w[n], x, n as u64);
-        n -= 1;
+    let mut sum = leftward(x, weights);
+    let mut w = GREATEST;
+    let mut n = mode_of(x);
+    loop {
+        let next = n + 1;
+        if passes(w, sum, x, n, tolerance) {
+            return Truncation { level: n, sum };
+        }
+        w = step_right(w, x, n);
+        weights[next as usize] = w;
+        sum += w;
+        n = next;
     }
-    w
+}
+
+// Writes w(0) to w(m), from m down to 0, and returns S(m).
+fn leftward(x: u64, weights: &mut [u64]) -> u64
+    requires { ⌜ (x ≤ 256000000) × (mode x < length (now weights)) ⌝ }
+    ensures { λ s. ⌜ (s ≡ weightSum x (mode x)) × (now (weights .exit) ≡ over (mode x + 1) (weight x) (now (weights .entry))) ⌝ }
+{
+    let mut n = mode_of(x) as usize;
+    let mut w = GREATEST;
+    let mut sum = GREATEST;
+    weights[n] = GREATEST;
+    while n > 0 {
+        w = step_left(w, x, n as u64);
+        n -= 1;
+        weights[n] = w;
+        sum += w;
+    }
+    sum
 }
 
 // m: q rounded down.
@@ -74,29 +91,6 @@ fn step_left(w: u64, x: u64, n: u64) -> u64
     ensures { λ r. ⌜ r ≡ weight x (n - 1) ⌝ }
 {
     muldiv::scaled(w, n * MILLION, x)
-}
-
-// Where the sum over n is cut off: the level N, and S(N).
-pub struct Truncation {
-    pub level: u64,
-    pub sum: u64,
-}
-
-// The least n that passes, and S(n). 2m + 51 passes, so the search ends there at the latest.
-pub fn truncate(weights: &[u64; LEVELS], x: u64, tolerance: u64) -> Truncation
-    requires { ⌜ (now weights ≡ firsts LEVELS (weight x)) × (1 ≤ x) × (x ≤ 256000000) × (1 ≤ tolerance) × (tolerance ≤ 100000000) ⌝ }
-    ensures { λ r. ⌜ Truncated x tolerance (r .level) (r .sum) ⌝ }
-{
-    let mut n: u64 = 0;
-    let mut sum = weights[0];
-    loop {
-        let next = n + 1;
-        if passes(weights[n as usize], sum, x, n, tolerance) {
-            return Truncation { level: n, sum };
-        }
-        sum += weights[next as usize];
-        n = next;
-    }
 }
 
 // Whether n passes, given w(n) and S(n): n jumps are at least q, and t, the bound on the weights

@@ -60,7 +60,7 @@ const TOLERANCES: [u64; CASES] = [
     1,
 ];
 
-// A prime, so that each weight counts in the checksum.
+// A prime, so that each entry counts in the checksum.
 const PRIME: u64 = 1_000_000_007;
 
 fn main() {
@@ -74,8 +74,8 @@ fn main() {
 
 // File B: X is 1,000,000 and the tolerance 100,000,000. Its weights 0 to 3, and its level.
 fn show_b() {
-    let w = poisson::weights(1_000_000);
-    let cut = poisson::truncate(&w, 1_000_000, 100_000_000);
+    let mut w = [0u64; LEVELS];
+    let cut = poisson::truncate(1_000_000, 100_000_000, &mut w);
     let first = w[0];
     let second = w[1];
     let third = w[2];
@@ -88,7 +88,7 @@ fn show_b() {
     last(cut.level);
 }
 
-// X, the tolerance, the level N, S(N), and the checksum of all weights.
+// X, the tolerance, the level N, S(N), and the checksum of the array: w(0) to w(N), and 0 past N.
 fn show(x: u64, tolerance: u64) {
     if x < 1 || x > 256_000_000 {
         return;
@@ -96,8 +96,8 @@ fn show(x: u64, tolerance: u64) {
     if tolerance < 1 || tolerance > 100_000_000 {
         return;
     }
-    let w = poisson::weights(x);
-    let cut = poisson::truncate(&w, x, tolerance);
+    let mut w = [0u64; LEVELS];
+    let cut = poisson::truncate(x, tolerance, &mut w);
     let sum = checksum(&w);
     number(x);
     number(tolerance);
@@ -106,7 +106,7 @@ fn show(x: u64, tolerance: u64) {
     last(sum);
 }
 
-// c = 31 * c + w(n) by PRIME, over all weights, n rising from 0.
+// c = 31 * c + w(n) by PRIME, over the whole array, n rising from 0.
 fn checksum(w: &[u64; LEVELS]) -> u64 {
     let mut c: u64 = 0;
     let mut n = 0;

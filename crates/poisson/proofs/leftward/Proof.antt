@@ -1,52 +1,80 @@
 -- `poisson::leftward` meets its contract. Assumes nothing.
--- The loop's invariant: the weights stand from n on. The measure is n.
-use mathlib.Core.Path.{_≡_, ap, _∙_}
-use mathlib.Core.List.{List}
-use Prim.Native.Nat.{_≤_}
+-- The loop's invariant: w is w(n); with the weights below n added the sum is S(m), and with them written the array is as at the
+-- loop's start with those below m written. The measure is n.
+use mathlib.Core.Path.{_≡_, refl, sym, ap, _∙_}
+use Prim.Native.Nat.{ℕ, _+_, _-_, _≤_, _<_}
 use native.Mathlib.Omega.{arith}
-use native.Mathlib.Nat.{le-refl}
-use lib.ListN.{getD}
-use Rattle.definitions.specs.Sums.{firsts}
-use Rattle.definitions.specs.Weights.{mode}
-use Rattle.laws.specs.LevelLaws.{LEVELS}
-use Rattle.laws.specs.ListLaws.{getD-firsts}
-use Rattle.laws.specs.WeightLaws.{mode-low}
-use Rattle.poisson.specs.Stages.{weightsFrom}
-use Rattle.poisson.proofs.Filling.{above, one-left, all-weights}
+use borrow.Author.Needs.{needs}
+use lib.ListN.{length, length-set}
+use Rattle.definitions.specs.Sums.{sum as sumOf, over}
+use Rattle.definitions.specs.Weights.{GREATEST, mode, weight, weightSum}
+use Rattle.laws.specs.SumLaws.{sum-zero}
+use Rattle.laws.specs.WeightLaws.{mode-low, weight-mode, weightSum-max}
+use Rattle.laws.specs.ListLaws.{over-none}
+use Rattle.poisson.proofs.Filling.{sum-first, sum-last, store-last}
 use Rattle.poisson.proofs.leftward.Statement.{statement}
 use Rattle.poisson.proofs.leftward.Tie as tie
 
 abbrev Inv-loop : tie.InvT-loop
-Inv-loop x w₀ n₀ w n = (n ≤ mode x) × (mode x ≤ 256) × (w ≡ firsts LEVELS (weightsFrom n x))
+Inv-loop x weights₀ n₀ w₀ sum₀ weights n w sum =
+    (n ≤ mode x) × (mode x < length weights) × (length weights ≡ length weights₀) × (w ≡ weight x n) × (sum + sumOf n (weight x) ≡ weightSum x (mode x)) × (over n (weight x) weights ≡ over n₀ (weight x) weights₀)
 
 abbrev μ-loop : tie.MeasureT-loop
-μ-loop x w₀ n₀ w n = n
+μ-loop x weights₀ n₀ w₀ sum₀ weights n w sum = n
 
 loop-holds : tie.Need-loop-holds Inv-loop μ-loop
-loop-holds c = (omega arith, omega (arith, mode-low (c .before .args .x)), rw (c .mode-of .ensures) (c .before .pre .1))
-
-step-left-requires : tie.Need-step-left-requires Inv-loop μ-loop
-step-left-requires c κs =
-    let loop = c .before .loop in
-    let n = loop .n in
-    let x = c .before .before .before .args .x in (
-      ap (λ (l : List _). getD l n 0) (loop .inv .2) ∙ getD-firsts 0 LEVELS (weightsFrom n x) n (omega arith) ∙ above n x n (le-refl n),
+loop-holds c =
+    let args = c .before .before .args in
+    let x = args .x in
+    let m = c .mode-of .result in
+    let is-mode = c .mode-of .ensures in (
       omega arith,
-      omega arith,
-      omega arith,
+      omega (arith, length-set (args .weights .now) m GREATEST),
+      refl,
+      omega (arith, weight-mode x, ap (weight x) is-mode),
+      omega (arith, sum-first x, ap (λ (k : ℕ). sumOf k (weight x)) is-mode),
+      refl,
     )
+
+-- one weight more in the sum
+more : (c : tie.After-step-left Inv-loop μ-loop) → let x = c .before .before .before .before .before .args .x in let loop = c .before .before .loop in loop .sum + c .step-left .result + sumOf (loop .n - 1) (weight x) ≡ weightSum x (mode x)
+more c =
+    let x = c .before .before .before .before .before .args .x in
+    let n = c .before .before .loop .n in
+    omega (arith, sum-last (weight x) (n - 1) n (omega arith))
+
+add-sum : tie.Need-add-sum Inv-loop μ-loop
+add-sum c =
+    let x = c .before .before .before .before .before .args .x in
+    omega (arith, more c, weightSum-max x (mode x), mode-low x)
 
 loop-again : tie.Need-loop-again Inv-loop μ-loop
 loop-again c =
+    let x = c .before .before .before .before .before .args .x in
     let loop = c .before .before .loop in
-    let x = c .before .before .before .before .args .x in
-    (omega arith, omega arith, one-left (loop .n) x (loop .w) (c .step-left .result) (omega arith) (omega arith) (loop .inv .2) (c .step-left .ensures))
+    let n = loop .n in
+    let w = c .step-left .result in (
+      omega arith,
+      omega (arith, length-set (loop .weights) (n - 1) w),
+      omega (arith, length-set (loop .weights) (n - 1) w),
+      c .step-left .ensures,
+      more c,
+      store-last (weight x) (n - 1) n (omega arith) (loop .weights) w (omega arith) (c .step-left .ensures) ∙ loop .inv .5,
+    )
 
 returns : tie.Need-returns Inv-loop μ-loop
 returns c =
+    let args = c .before .before .before .before .args in
+    let x = args .x in
     let loop = c .before .loop in
-    let end : loop .n ≡ 0 = omega arith in
-    rw end at (loop .inv .2) ∙ all-weights (c .before .before .before .args .x)
+    let m = c .before .before .mode-of .result in
+    let end : 0 ≡ loop .n = omega arith in (
+      omega (arith, sum-zero (weight x), ap (λ (k : ℕ). sumOf k (weight x)) end),
+      sym (over-none (weight x) (loop .weights))
+          ∙ ap (λ (k : ℕ). over k (weight x) (loop .weights)) end
+          ∙ loop .inv .5
+          ∙ store-last (weight x) m (mode x + 1) (omega arith) (args .weights .now) GREATEST (omega arith) (omega (arith, weight-mode x, ap (weight x) (c .before .before .mode-of .ensures))),
+    )
 
 pub leftward-spec : {M : Type 1} → statement M
 leftward-spec =
@@ -54,15 +82,16 @@ leftward-spec =
     (tie.spec
     Inv-loop
     μ-loop
-    (λ c κs. omega arith)
+    (λ c κs. search needs)
+    (λ c. omega (arith, mode-low (c .before .before .args .x)))
+    (λ c. omega arith)
     loop-holds
+    (λ c κs. search needs)
     (λ c. omega arith)
+    (λ c. omega (arith, mode-low (c .before .before .before .before .before .args .x)))
     (λ c. omega arith)
-    step-left-requires
-    (λ c. omega arith)
-    (λ c. omega arith)
-    (λ c. omega arith)
-    (λ c. omega arith)
+    add-sum
     (λ c. omega arith)
     loop-again
+    (λ c. let start = c .before .before .before .before in omega (arith, length-set (start .args .weights .now) (c .before .before .mode-of .result) GREATEST))
     returns)
