@@ -165,25 +165,19 @@ mod reader {
         rate * time
     }
 
-    fn no_rows() -> [u64; 4096] {
-        [0u64; 4096]
-    }
-
-    fn write_row(file: &[u8], i: usize, diagonal: u64, chain: &mut [u64; 4096]) {
+    fn write_row(file: &[u8], i: usize, diagonal: u64, chain: &mut [u32]) {
         let states = state_count(file);
         let row = row_of(file, i);
         for j in 0..states {
-            chain[i * 64 + j] = entry_in(row, i, j, diagonal);
+            chain[i * states + j] = entry_in(row, i, j, diagonal) as u32;
         }
     }
 
-    pub fn chain_of(file: &[u8], sums: &[u64; 64], rate: u64) -> [u64; 4096] {
+    pub fn write_chain(file: &[u8], sums: &[u64; 64], rate: u64, chain: &mut [u32]) {
         let states = state_count(file);
-        let mut chain = no_rows();
         for i in 0..states {
-            write_row(file, i, rate - sums[i], &mut chain);
+            write_row(file, i, rate - sums[i], chain);
         }
-        chain
     }
 }
 
@@ -293,26 +287,17 @@ mod poisson {
     const BILLION: u64 = 1_000_000_000;
     pub const LEVELS: usize = 564;
 
-    pub fn weights(x: u64) -> [u64; LEVELS] {
-        let m = mode_of(x) as usize;
-        let mut w = [0u64; LEVELS];
-        w[m] = GREATEST;
-        let mut n = m;
-        while n < 2 * m + 51 {
-            w[n + 1] = step_right(w[n], x, n as u64);
-            n += 1;
-        }
-        leftward(x, w)
-    }
-
-    fn leftward(x: u64, w: [u64; LEVELS]) -> [u64; LEVELS] {
-        let mut w = w;
+    fn leftward(x: u64, weights: &mut [u64; LEVELS]) -> u64 {
         let mut n = mode_of(x) as usize;
+        weights[n] = GREATEST;
+        let mut sum = GREATEST;
         while n > 0 {
-            w[n - 1] = step_left(w[n], x, n as u64);
+            let w = step_left(weights[n], x, n as u64);
             n -= 1;
+            weights[n] = w;
+            sum += w;
         }
-        w
+        sum
     }
 
     fn mode_of(x: u64) -> u64 {
@@ -332,15 +317,16 @@ mod poisson {
         pub sum: u64,
     }
 
-    pub fn truncate(weights: &[u64; LEVELS], x: u64, tolerance: u64) -> Truncation {
-        let mut n: u64 = 0;
-        let mut sum = weights[0];
+    pub fn truncate(x: u64, tolerance: u64, weights: &mut [u64; LEVELS]) -> Truncation {
+        let mut sum = leftward(x, weights);
+        let mut n = mode_of(x) as usize;
         loop {
             let next = n + 1;
-            if passes(weights[n as usize], sum, x, n, tolerance) {
-                return Truncation { level: n, sum };
+            if passes(weights[n], sum, x, n as u64, tolerance) {
+                return Truncation { level: n as u64, sum };
             }
-            sum += weights[next as usize];
+            weights[next] = step_right(weights[n], x, n as u64);
+            sum += weights[next];
             n = next;
         }
     }
@@ -359,11 +345,11 @@ mod poisson {
 mod vectors {
     use super::definitions::{Sizes, ONE};
 
-    fn row_mean(sizes: Sizes, chain: &[u64; 4096], v: &[u64; 64], i: usize) -> u64 {
+    fn row_mean(sizes: Sizes, chain: &[u32], v: &[u64; 64], i: usize) -> u64 {
         let states = sizes.states;
         let mut total = 0;
         for j in 0..states {
-            total += chain[i * 64 + j] * v[j];
+            total += chain[i * states + j] as u64 * v[j];
         }
         total / sizes.rate
     }
@@ -378,7 +364,7 @@ mod vectors {
 
     pub fn step(
         sizes: Sizes,
-        chain: &[u64; 4096],
+        chain: &[u32],
         rewards: &[u64; 64],
         n: u64,
         r: u64,
@@ -424,23 +410,13 @@ mod vectors {
         table
     }
 
-    pub fn next_table(
-        sizes: Sizes,
-        chain: &[u64; 4096],
-        rewards: &[u64; 64],
-        n: u64,
-        table: [[u64; 64]; 9],
-    ) -> [[u64; 64]; 9] {
+    pub fn next_table(sizes: Sizes, chain: &[u32], rewards: &[u64; 64], n: u64, table: &mut [[u64; 64]; 9]) {
         let highest = sizes.highest;
-        let zeros = [0u64; 64];
-        let mut next = [zeros; 9];
-        next[0] = ones(sizes.states);
         for r in 1..highest + 1 {
             let before = table[r];
-            let same = next[r - 1];
-            next[r] = step(sizes, chain, rewards, n, r as u64, before, same);
+            let same = table[r - 1];
+            table[r] = step(sizes, chain, rewards, n, r as u64, before, same);
         }
-        next
     }
 }
 
@@ -448,49 +424,38 @@ mod moments {
     use super::definitions::{Judgement, Outcome, Sizes, ONE};
     use super::{muldiv, poisson, reader, refusals, vectors};
 
-    const SMALL_WEIGHT: u64 = 18_000_000;
-
-    fn one_term(w: u64, u: u64) -> u64 {
-        if w < SMALL_WEIGHT {
-            return w * u / ONE;
-        }
-        muldiv::scaled(w, u, ONE)
-    }
-
-    fn add_terms(sizes: Sizes, w: u64, sums: [u64; 512], table: [[u64; 64]; 9]) -> [u64; 512] {
+    fn add_terms(sizes: Sizes, w: u64, table: &[[u64; 64]; 9], sums: &mut [u64; 512]) {
         let highest = sizes.highest;
         let count = sizes.states * highest;
-        let mut next = sums;
+        let mut i = 0;
+        let mut r = 1;
         for k in 0..count {
-            let r = k % highest + 1;
-            let i = k / highest;
-            next[k] += one_term(w, table[r][i]);
+            sums[k] += muldiv::over_trillion(w, table[r][i]);
+            if r == highest {
+                r = 1;
+                i += 1;
+            } else {
+                r += 1;
+            }
         }
-        next
-    }
-
-    fn no_sums() -> [u64; 512] {
-        [0u64; 512]
     }
 
     fn accumulate(
         sizes: Sizes,
-        chain: &[u64; 4096],
+        chain: &[u32],
         rewards: &[u64; 64],
         weights: &[u64; poisson::LEVELS],
         level: u64,
-    ) -> [u64; 512] {
+        sums: &mut [u64; 512],
+    ) {
         let mut table = vectors::first_table(sizes, rewards);
-        let mut sums = add_terms(sizes, weights[0], no_sums(), table);
+        add_terms(sizes, weights[0], &table, sums);
         let mut n: u64 = 0;
         while n < level {
             n += 1;
-            let next = vectors::next_table(sizes, chain, rewards, n, table);
-            table = next;
-            let more = add_terms(sizes, weights[n as usize], sums, table);
-            sums = more;
+            vectors::next_table(sizes, chain, rewards, n, &mut table);
+            add_terms(sizes, weights[n as usize], &table, sums);
         }
-        sums
     }
 
     fn last_quotient(sum: u64, total: u64) -> u64 {
@@ -504,23 +469,33 @@ mod moments {
         }
     }
 
-    fn solve(sizes: Sizes, chain: &[u64; 4096], rewards: &[u64; 64], x: u64, tolerance: u64, cells: &mut [u64]) -> u64 {
-        let weights = poisson::weights(x);
-        let cut = poisson::truncate(&weights, x, tolerance);
+    fn solve(sizes: Sizes, chain: &[u32], rewards: &[u64; 64], x: u64, tolerance: u64, cells: &mut [u64]) -> u64 {
+        let mut weights = [0u64; poisson::LEVELS];
+        let cut = poisson::truncate(x, tolerance, &mut weights);
         let level = cut.level;
-        let sums = accumulate(sizes, chain, rewards, &weights, level);
+        let mut sums = [0u64; 512];
+        accumulate(sizes, chain, rewards, &weights, level, &mut sums);
         write_moments(&sums, cut.sum, sizes.states * sizes.highest, cells);
         level
     }
 
     fn fill(file: &[u8], cells: &mut [u64]) -> u64 {
+        if reader::state_count(file) <= 16 {
+            let mut chain = [0u32; 256];
+            return fill_by(file, &mut chain, cells);
+        }
+        let mut chain = [0u32; 4096];
+        fill_by(file, &mut chain, cells)
+    }
+
+    fn fill_by(file: &[u8], chain: &mut [u32], cells: &mut [u64]) -> u64 {
         let sums = reader::row_sums(file);
         let sizes = reader::sizes_of(file, &sums);
-        let chain = reader::chain_of(file, &sums, sizes.rate);
+        reader::write_chain(file, &sums, sizes.rate, chain);
         let rewards = reader::rewards_of(file);
         let x = reader::jump_millionths(sizes.rate, reader::time(file));
         let tolerance = reader::tolerance(file);
-        solve(sizes, &chain, &rewards, x, tolerance, cells)
+        solve(sizes, chain, &rewards, x, tolerance, cells)
     }
 
     pub fn calculate(file: &[u8], cells: &mut [u64]) -> Outcome {

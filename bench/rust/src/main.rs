@@ -5,7 +5,8 @@
 //!     wide      the same algorithm in Rust, with u128 in the helper's place
 //!     plain     the independent version of the comparison: u128 throughout, vectors on the heap
 //!
-//!     bench REPETITIONS FILE [LINE]      LINE: only that one, for a profiler
+//!     bench TURNS all FILE...      prints the times and the ratios
+//!     bench TURNS LINE FILE...     runs that line alone and prints nothing, for a profiler
 
 #[path = "../../../tests/rust/src/independent.rs"]
 mod independent;
@@ -29,69 +30,171 @@ mod wide {
 }
 
 use std::hint::black_box;
+use std::path::Path;
 use std::time::Instant;
 
 type Calculation = fn(&[u8], &mut [u64]) -> Result<u64, u8>;
 
+/// The library first, then the versions in Rust.
 const LINES: [(&str, Calculation); 4] = [
     ("library", library::calculate),
     ("same", same::calculate),
     ("wide", wide::calculate),
     ("plain", independent::calculate),
 ];
+const LIBRARY: usize = 0;
 
 /// Cells for every file.
 const CELLS: usize = 512;
 
-/// Calls that are timed together, so that a short one is longer than the clock's step.
-fn batch(calculation: Calculation, file: &[u8]) -> u32 {
-    let mut cells = [0; CELLS];
-    let start = Instant::now();
-    black_box(calculation(black_box(file), &mut cells)).expect("an accepted file");
-    let once = start.elapsed().as_nanos().max(1);
-    (100_000 / once).clamp(1, 1_000) as u32
+/// A turn of a line takes at least about this long: as many calls as that needs are timed, and averaged.
+const TURN_MICROSECONDS: f64 = 1_000.0;
+
+/// A model file, what every line has to answer, and the microseconds a call of each line, turn by turn.
+struct Case {
+    name: String,
+    file: Vec<u8>,
+    level: u64,
+    cells: [u64; CELLS],
+    calls: [u32; LINES.len()],
+    times: [Vec<f64>; LINES.len()],
 }
 
-fn median(times: &mut [f64]) -> f64 {
-    times.sort_by(f64::total_cmp);
-    times[times.len() / 2]
+impl Case {
+    /// The file with the count of calls in a turn of each of `lines`.
+    fn read(path: &Path, lines: &[usize]) -> Case {
+        let name = path.file_stem().expect("a file's name").to_string_lossy().into_owned();
+        let file = std::fs::read(path).expect("a model file");
+        let mut cells = [0; CELLS];
+        let level = independent::calculate(&file, &mut cells).expect("an accepted file");
+        let mut case = Case { name, file, level, cells, calls: [1; LINES.len()], times: Default::default() };
+        for line in lines {
+            let least = (0..3).map(|_| case.call(*line)).fold(f64::INFINITY, f64::min);
+            case.calls[*line] = (TURN_MICROSECONDS / least).clamp(1.0, 10_000.0) as u32;
+        }
+        case
+    }
+
+    /// The microseconds of one call, whose answer and cells are compared.
+    fn call(&self, line: usize) -> f64 {
+        let (name, calculation) = LINES[line];
+        let mut cells = [0; CELLS];
+        let start = Instant::now();
+        let answer = calculation(black_box(&self.file), black_box(&mut cells));
+        let spent = start.elapsed().as_secs_f64();
+        assert_eq!(answer, Ok(self.level), "{name}");
+        assert_eq!(cells, self.cells, "{name}");
+        spent * 1e6
+    }
+
+    fn turn(&mut self, line: usize) {
+        let calls = self.calls[line];
+        let spent: f64 = (0..calls).map(|_| self.call(line)).sum();
+        self.times[line].push(spent / f64::from(calls));
+    }
+
+    fn states(&self) -> u64 {
+        self.file[3].into()
+    }
+
+    fn highest(&self) -> u64 {
+        self.file[4].into()
+    }
+
+    /// M × M × R × N, the number of products c(i,j) × U.
+    fn products(&self) -> u64 {
+        self.states() * self.states() * self.highest() * self.level
+    }
+
+    fn times(&self, line: usize) -> Spread {
+        Spread::of(self.times[line].iter().copied())
+    }
+
+    fn nanoseconds_a_product(&self, line: usize) -> f64 {
+        self.times(line).median * 1e3 / self.products() as f64
+    }
+
+    /// The ratios of each turn, so that both parts of one are of the same spell.
+    fn ratios(&self, line: usize, other: usize) -> Spread {
+        Spread::of(self.times[line].iter().zip(&self.times[other]).map(|(own, others)| own / others))
+    }
+
+    fn fastest_in_rust(&self) -> usize {
+        let rust = (0..LINES.len()).filter(|line| *line != LIBRARY);
+        rust.min_by(|a, b| self.times(*a).median.total_cmp(&self.times(*b).median)).expect("a version in Rust")
+    }
+
+    fn print(&self) {
+        let fastest = self.fastest_in_rust();
+        let (name, states, highest, level) = (&self.name, self.states(), self.highest(), self.level);
+        println!("{name}: {states} states, R = {highest}, level {level}, {} products", self.products());
+        println!("  line         median      least   greatest ns/product library to it it to fastest   middle half");
+        for (line, (label, _)) in LINES.iter().enumerate() {
+            let Spread { median, least, greatest, .. } = self.times(line);
+            let product = self.nanoseconds_a_product(line);
+            let library = self.ratios(LIBRARY, line).median;
+            let ratios = self.ratios(line, fastest);
+            print!("  {label:<8} {median:>10.2} {least:>10.2} {greatest:>10.2} {product:>10.3} {library:>13.2} ");
+            println!("{:>13.2}  {:>5.2} to {:.2}", ratios.median, ratios.low, ratios.high);
+        }
+        let ratios = self.ratios(LIBRARY, fastest);
+        println!("  fastest in Rust: {}; library to it {:.2}\n", LINES[fastest].0, ratios.median);
+    }
+
+    fn print_short(&self) {
+        let (name, states, highest, level) = (&self.name, self.states(), self.highest(), self.level);
+        print!("  {name:<10} {states:>6} {highest:>2} {level:>5}");
+        let fastest = self.fastest_in_rust();
+        for line in [LIBRARY, fastest] {
+            print!(" {:>11.2} {:>10.3}", self.times(line).median, self.nanoseconds_a_product(line));
+        }
+        println!("   {:<7} {:>13.2}", LINES[fastest].0, self.ratios(LIBRARY, fastest).median);
+    }
+}
+
+/// The least of some numbers, their quartiles and the greatest.
+struct Spread {
+    least: f64,
+    low: f64,
+    median: f64,
+    high: f64,
+    greatest: f64,
+}
+
+impl Spread {
+    fn of(numbers: impl Iterator<Item = f64>) -> Spread {
+        let mut sorted: Vec<f64> = numbers.collect();
+        sorted.sort_by(f64::total_cmp);
+        let at = |quarters: usize| sorted[quarters * (sorted.len() - 1) / 4];
+        Spread { least: at(0), low: at(1), median: at(2), high: at(3), greatest: at(4) }
+    }
 }
 
 fn main() {
     let words: Vec<String> = std::env::args().skip(1).collect();
-    let repetitions: usize = words[0].parse().expect("a number of repetitions");
-    let path = std::path::Path::new(&words[1]);
-    let file = std::fs::read(path).expect("a model file");
-    let lines: Vec<_> = LINES.into_iter().filter(|(name, _)| words.len() < 3 || words[2] == *name).collect();
-
-    let mut expected = [0; CELLS];
-    let level = independent::calculate(&file, &mut expected).expect("an accepted file");
-    let batches: Vec<u32> = lines.iter().map(|(_, calculation)| batch(*calculation, &file)).collect();
-    let mut times = vec![Vec::new(); lines.len()];
-    // The lines take turns, so that a slow spell of the machine meets all of them.
-    for _ in 0..repetitions {
-        for (line, (name, calculation)) in lines.iter().enumerate() {
-            let mut spent = 0.0;
-            for _ in 0..batches[line] {
-                let mut cells = [0; CELLS];
-                let start = Instant::now();
-                let answer = calculation(black_box(&file), black_box(&mut cells));
-                spent += start.elapsed().as_secs_f64();
-                assert_eq!(answer, Ok(level), "{name}");
-                assert_eq!(cells, expected, "{name}");
+    let turns: usize = words[0].parse().expect("a number of turns");
+    let chosen = |line: &usize| words[1] == "all" || words[1] == LINES[*line].0;
+    let lines: Vec<usize> = (0..LINES.len()).filter(chosen).collect();
+    assert!(!lines.is_empty(), "no line {}", words[1]);
+    let mut cases: Vec<Case> = words[2..].iter().map(|path| Case::read(Path::new(path), &lines)).collect();
+    // The files and the lines take turns, so that a slow spell of the machine meets all of them.
+    for _ in 0..turns {
+        for case in &mut cases {
+            for line in &lines {
+                case.turn(*line);
             }
-            times[line].push(spent * 1e6 / f64::from(batches[line]));
         }
     }
-
-    let name = path.file_name().expect("a file's name").to_string_lossy();
-    println!("{name}: {} states, R = {}, level {level}; {repetitions} repetitions, in microseconds", file[3], file[4]);
-    println!("  {:<8} {:>12} {:>12} {:>12}   library to it", "", "median", "least", "greatest");
-    for ((label, _), own) in lines.iter().zip(&times) {
-        // the ratio of each turn, so that both parts of one are of the same spell
-        let mut ratios: Vec<f64> = times[0].iter().zip(own).map(|(library, own)| library / own).collect();
-        let mut own = own.clone();
-        let middle = median(&mut own);
-        println!("  {label:<8} {middle:>12.2} {:>12.2} {:>12.2}   {:>8.2}", own[0], own[own.len() - 1], median(&mut ratios));
+    if lines.len() < LINES.len() {
+        return;
+    }
+    println!("{turns} turns; times in microseconds a call\n");
+    for case in &cases {
+        case.print();
+    }
+    println!("all files: the medians of the library and of the fastest in Rust");
+    println!("  file       states  R level     library ns/product     fastest ns/product   which   library to it");
+    for case in &cases {
+        case.print_short();
     }
 }

@@ -1,12 +1,14 @@
-// crates/muldiv in Rust: multiply, then divide, by a loop over the bits of b.
+// crates/muldiv in Rust: multiply, then divide, by a loop over the bits of b; where the divisor is 10^12, by parts of a
+// million each.
 //
 // `how_often` and `rest` choose by `select_unpredictable` (rustc 1.88 or newer) where the Rattle source has `if`: Rattle's
-// compiler makes no branch of that, and rustc would, which makes the heaviest file slower by half (docs/SPEED.md).
+// compiler makes no branch of that, and rustc is kept from making one, since nobody can guess the bits.
 
 use std::hint::select_unpredictable;
 
 const LIMIT: u64 = 1 << 62;
 const LARGEST: u64 = 0xffff_ffff_ffff_ffff;
+const MILLION: u64 = 1_000_000;
 
 pub enum Quotient {
     Of(u64),
@@ -29,6 +31,16 @@ pub fn scaled(a: u64, b: u64, c: u64) -> u64 {
         Quotient::Of(q) => q,
         Quotient::Nothing => 0,
     }
+}
+
+pub fn over_trillion(a: u64, b: u64) -> u64 {
+    let a1 = a / MILLION;
+    let a0 = a % MILLION;
+    let b1 = b / MILLION;
+    let b0 = b % MILLION;
+    let carry = a0 * b0 / MILLION;
+    let middle = a1 * b0 + a0 * b1 + carry;
+    a1 * b1 + middle / MILLION
 }
 
 fn total(high: u64, b: u64, low: u64) -> Quotient {
