@@ -52,9 +52,9 @@ pub getD-padded : (M : ℕ) (v : ℕ → ℕ) (i : ℕ) → M ≤ 64 → i < M �
 unfolding padded
 getD-padded M v i h l = getD-firsts 0 64 (λ j. pick (ltb j M) (v j) 0) i (omega arith) ∙ rw (lt-ltb i M l)
 
--- c has at most 4,096 entries
-pub square-max : (M : ℕ) → M ≤ 64 → M * M ≤ 4096
-square-max M h = mul-le-mul h h
+-- at most k states have at most k × k entries of c
+pub square-max : (M k : ℕ) → M ≤ k → M * M ≤ k * k
+square-max M k h = mul-le-mul h h
 
 -- c(i,j) stands at i × M + j
 pub flat-entry : (ch : Chain) (i j : ℕ) → j < ch .states → flatEntry ch (i * ch .states + j) ≡ ch .entry i j

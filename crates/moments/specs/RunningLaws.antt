@@ -1,7 +1,7 @@
 -- The running sums: none at first, one n more at a time, and their range.
-use mathlib.Core.List.{List}
+use mathlib.Core.List.{List, []}
 use mathlib.Core.Path.{_≡_, sym, _∙_, ap, ap₂}
-use Prim.Native.Nat.{ℕ, _+_, _*_, _/_, _%_, _≤_, _<_}
+use Prim.Native.Nat.{ℕ, _+_, _-_, _*_, _/_, _%_, _≤_, _<_}
 use native.Mathlib.Decide.{decLt}
 use native.Mathlib.Nat.{mul-le-mul-left, le-trans}
 use native.Mathlib.Numerals.{add-one}
@@ -16,12 +16,12 @@ use Rattle.definitions.specs.Chain.{Chain, arrays}
 use Rattle.definitions.specs.Vectors.{ONE, U}
 use Rattle.definitions.specs.Weights.{GREATEST}
 use Rattle.definitions.specs.Moment.{term}
-use Rattle.laws.specs.Rounding.{quotient-at-most}
+use Rattle.laws.specs.Rounding.{quotient-at-most, row-of-place}
 use Rattle.laws.specs.SumLaws.{sum-zero, sum-suc, sum-mono, sum-constant}
 use Rattle.laws.specs.ListLaws.{length-firsts, getD-firsts, length-over, getD-over, getD-over-past}
 use Rattle.laws.specs.ArrayLaws.{zeros, length-zeros, zero-at}
 use Rattle.laws.specs.VectorLaws.{Stochastic, U-bound}
-use Rattle.laws.specs.MomentLaws.{row-of-cell, state-of-cell, count-max}
+use Rattle.laws.specs.MomentLaws.{row-of-cell, state-of-cell, count-max, moment-of-cell}
 use Rattle.vectors.specs.Table.{tableOf}
 use Rattle.vectors.specs.TableLaws.{table-entry}
 use Rattle.moments.specs.Running.{inTable, partSum, partSums, Addable, Summable}
@@ -30,6 +30,11 @@ use Rattle.moments.specs.Running.{inTable, partSum, partSums, Addable, S
 pub term-max : (w u : ℕ) → u ≤ ONE → term w u ≤ w
 unfolding term
 term-max w u h = quotient-at-most (w * u) w ONE (mul-le-mul-left w h)
+
+-- the cell of state i and moment r has the table's entry i of row r
+pub cell-in-table : (table : List (List ℕ)) (i r R k : ℕ) → k ≡ i * R + (r - 1) → 1 ≤ r → r ≤ R → inTable table R k ≡ getD (getD table r []) i 0
+cell-in-table table i r R k e low high =
+    rw e (ap₂ (λ (a b : ℕ). getD (getD table a []) b 0) (moment-of-cell i r R low high) (row-of-place i (r - 1) R (omega arith)))
 
 module _ (ch : Chain) (w : List ℕ) (R : ℕ) where
   pub length-sums : (n : ℕ) → length (partSums ch w R n) ≡ 512

@@ -1,7 +1,8 @@
 -- The moments of a chain that stands in arrays, for one expected jump count and one tolerance.
 use mathlib.Core.List.{List}
 use mathlib.Core.Path.{_≡_}
-use Prim.Native.Nat.{ℕ, _+_, _/_, _%_, _≤_}
+use Prim.Native.Nat.{ℕ, _+_, _*_, _/_, _%_, _≤_}
+use lib.ListN.{length}
 use Rattle.definitions.specs.declared.Sizes.{Sizes}
 use Rattle.definitions.specs.Chain.{Model, Chain, chainOf, flat, padded, sizesOf, jumpMillionths}
 use Rattle.definitions.specs.Vectors.{U}
@@ -22,10 +23,11 @@ pub record Solvable (z : Sizes) (c f : List ℕ) (X ε : ℕ) : Type 0 where
   pub tolerance-pos : 1 ≤ ε
   pub tolerance-max : ε ≤ 100000000
 
--- the arrays and numbers that were read are those of a model
-pub record ReadAs (m : Model) (z : Sizes) (c f : List ℕ) (X ε : ℕ) : Type 0 where
+-- the arrays and numbers that were read are those of a model, its chain in the place of the first entries of l
+pub record ReadAs (m : Model) (z : Sizes) (l c f : List ℕ) (X ε : ℕ) : Type 0 where
   pub sizes : z ≡ sizesOf m
-  pub entries : c ≡ flat (chainOf m)
+  pub room : m .states * m .states ≤ length l
+  pub entries : c ≡ flat (chainOf m) l
   pub rewards : f ≡ padded (m .states) (m .reward)
   pub jumps : X ≡ jumpMillionths m
   pub tolerance : ε ≡ m .tolerance

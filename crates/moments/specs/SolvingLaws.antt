@@ -4,9 +4,9 @@ use mathlib.Core.Path.{_≡_, _∙_, ap, ap₂}
 use Prim.Native.Nat.{ℕ, suc, _+_, _*_, _/_, _%_, _≤_, _<_}
 use native.Mathlib.Numerals.{add-one}
 use native.Mathlib.Omega.{arith}
-use lib.ListN.{getD}
+use lib.ListN.{length, getD}
 use Rattle.definitions.specs.declared.Sizes.{Sizes}
-use Rattle.definitions.specs.Sums.{firsts, over}
+use Rattle.definitions.specs.Sums.{over}
 use Rattle.definitions.specs.Chain.{Model, Chain, arrays, chainOf, padded, flat, sizesOf, jumpMillionths}
 use Rattle.definitions.specs.Vectors.{U}
 use Rattle.definitions.specs.Weights.{weight, weightSum}
@@ -33,7 +33,7 @@ mean-same X N u v h =
     ap (λ (a : ℕ). lastQuotient a (weightSum X N))
     (sum-same (suc N) (λ n. term (weight X n) (u n)) (λ n. term (weight X n) (v n)) (λ n l. ap (term (weight X n)) (h n (omega arith))))
 
-module _ (z : Sizes) (c f : List ℕ) (X ε : ℕ) (g : Solvable z c f X ε) (w : List ℕ) (ew : w ≡ firsts LEVELS (weight X)) where
+module _ (z : Sizes) (c f : List ℕ) (X ε : ℕ) (g : Solvable z c f X ε) (before w : List ℕ) (ew : w ≡ over (level X ε + 1) (weight X) before) where
   abbrev ch : Chain
   ch = arrays z c f
 
@@ -47,7 +47,7 @@ module _ (z : Sizes) (c f : List ℕ) (X ε : ℕ) (g : Solvable z c f X ε) (w 
   short = level-max X ε (g .jumps-max) (g .tolerance-pos)
 
   weight-in : (n : ℕ) → n ≤ level X ε → getD w n 0 ≡ weight X n
-  weight-in n h = weight-at X n w ew (omega (arith, short))
+  weight-in n h = weight-at X ε n before w ew h
 
   pub summable : Summable z c f w (level X ε)
   summable =
@@ -92,15 +92,15 @@ module _ (z : Sizes) (c f : List ℕ) (X ε : ℕ) (g : Solvable z c f X ε) (w 
       (over-same (M * R) (λ k. lastQuotient (getD (partSums ch w R (level X ε + 1)) k 0) (weightSum X (level X ε))) (cellMean ch X R (level X ε)) cells
       (λ k l. ap (λ (v : ℕ). lastQuotient v (weightSum X (level X ε))) (sum-is k l)))
 
-module _ (m : Model) (g : WithinLimits m) where
-  same : SameChain (held m) (chainOf m)
-  same = arrays-same m (g .states-max)
+module _ (m : Model) (g : WithinLimits m) (l : List ℕ) where
+  same : SameChain (held m l) (chainOf m)
+  same = arrays-same m l (g .states-max)
 
   -- the arrays of an accepted model are within the limits
-  pub solvable : Solvable (sizesOf m) (flat (chainOf m)) (padded (m .states) (m .reward)) (jumpMillionths m) (m .tolerance)
-  solvable =
+  pub solvable : m .states * m .states ≤ length l → Solvable (sizesOf m) (flat (chainOf m) l) (padded (m .states) (m .reward)) (jumpMillionths m) (m .tolerance)
+  solvable room =
       record {
-        ready = model-ready m g;
+        ready = model-ready m l g room;
         highest-pos = g .highest-pos;
         highest-max = g .highest-max;
         jumps-pos = g .jumps-pos;
@@ -110,16 +110,16 @@ module _ (m : Model) (g : WithinLimits m) where
       }
 
   -- and their means are the model's moments
-  pub means-of-model : (cells : List ℕ) → over (m .states * m .highest) (cellMean (held m) (jumpMillionths m) (m .highest) (modelLevel m)) cells ≡ over (m .states * m .highest) (cell m (modelLevel m)) cells
+  pub means-of-model : (cells : List ℕ) → over (m .states * m .highest) (cellMean (held m l) (jumpMillionths m) (m .highest) (modelLevel m)) cells ≡ over (m .states * m .highest) (cell m (modelLevel m)) cells
   unfolding cellMean cell moment
   means-of-model cells =
-      over-same (m .states * m .highest) (cellMean (held m) (jumpMillionths m) (m .highest) (modelLevel m)) (cell m (modelLevel m)) cells
-      (λ k l. mean-same (jumpMillionths m) (modelLevel m) _ _ (λ n h. U-same (held m) (chainOf m) same n (k % m .highest + 1) (k / m .highest) (state-of-cell k (m .states) (m .highest) l)))
+      over-same (m .states * m .highest) (cellMean (held m l) (jumpMillionths m) (m .highest) (modelLevel m)) (cell m (modelLevel m)) cells
+      (λ k b. mean-same (jumpMillionths m) (modelLevel m) _ _ (λ n h. U-same (held m l) (chainOf m) same n (k % m .highest + 1) (k / m .highest) (state-of-cell k (m .states) (m .highest) b)))
 
 -- what was read of a model within its limits can be solved, and its solution is the model's level and moments
-module _ (m : Model) (g : WithinLimits m) (z : Sizes) (c f : List ℕ) (X ε : ℕ) (e : ReadAs m z c f X ε) where
+module _ (m : Model) (g : WithinLimits m) (z : Sizes) (l c f : List ℕ) (X ε : ℕ) (e : ReadAs m z l c f X ε) where
   pub solvable-read : Solvable z c f X ε
-  solvable-read = rw (e .sizes, e .entries, e .rewards, e .jumps, e .tolerance) (solvable m g)
+  solvable-read = rw (e .sizes, e .entries, e .rewards, e .jumps, e .tolerance) (solvable m g l (e .room))
 
   pub level-read : level X ε ≡ modelLevel m
   unfolding modelLevel
@@ -127,4 +127,4 @@ module _ (m : Model) (g : WithinLimits m) (z : Sizes) (c f : List ℕ) (X ε : �
 
   pub cells-read : (cells : List ℕ) → over (z .states * z .highest) (cellMean (arrays z c f) X (z .highest) (level X ε)) cells ≡ over (m .states * m .highest) (cell m (modelLevel m)) cells
   cells-read cells =
-      rw (level-read, e .sizes, e .entries, e .rewards, e .jumps) (means-of-model m g cells)
+      rw (level-read, e .sizes, e .entries, e .rewards, e .jumps) (means-of-model m g l cells)

@@ -3,15 +3,13 @@ ghost use mathlib.Core.Path.{_≡_};
 ghost use Prim.Native.Nat.{_+_, _*_, _^_, _<_, _≤_};
 ghost use lib.ListN.{length, getD};
 ghost use Rattle.definitions.specs.Sums.{over};
+ghost use Rattle.definitions.specs.File.{stateCount};
 ghost use Rattle.definitions.specs.Chain.{arrays, modelOf};
 ghost use Rattle.definitions.specs.Rules.{accepted};
-ghost use Rattle.definitions.specs.Vectors.{ONE};
-ghost use Rattle.definitions.specs.Weights.{GREATEST};
 ghost use Rattle.definitions.specs.Level.{level};
 ghost use Rattle.definitions.specs.Moment.{term, lastQuotient, modelLevel, outcome, answerOf, cellsAfter};
 ghost use Rattle.definitions.specs.Promise.{Promised};
 ghost use Rattle.laws.specs.Acceptance.{AcceptedFile};
-ghost use Rattle.laws.specs.ArrayLaws.{zeros};
 ghost use Rattle.moments.specs.Solving.{cellMean, Solvable};
 ghost use Rattle.moments.specs.Running.{inTable, partSums, Addable, Summable, Divisible};
 use definitions::Judgement;
@@ -19,47 +17,35 @@ use definitions::ONE;
 use definitions::Outcome;
 use definitions::Sizes;
 
-// A weight below this times ONE fits 64 bits.
-const SMALL_WEIGHT: u64 = 18_000_000;
+// At most this many states have their chain in an array of FEW × FEW entries: a small file does not pay
+// for the clearing of a large array.
+const FEW: usize = 16;
 
-// One term of A: w * u over 10^12, down.
-fn one_term(w: u64, u: u64) -> u64
-    requires { ⌜ (w ≤ GREATEST) × (u ≤ ONE) ⌝ }
-    ensures { λ r. ⌜ (r ≡ term w u) × (r ≤ w) ⌝ }
-{
-    if w < SMALL_WEIGHT {
-        return w * u / ONE;
-    }
-    muldiv::scaled(w, u, ONE)
-}
-
-// The sums A with the terms of one n added: w is w(n), and row r of the table is U(n,r).
-fn add_terms(sizes: Sizes, w: u64, sums: [u64; 512], table: [[u64; 64]; 9]) -> [u64; 512]
-    requires { ⌜ Addable sizes w sums table ⌝ }
-    ensures { λ a. ⌜ a ≡ over (sizes .states * sizes .highest) (λ k. getD sums k 0 + term w (inTable table (sizes .highest) k)) sums ⌝ }
+// The sums A with the terms of one n added: w is w(n), and row r of the table is U(n,r). Cell k is that of
+// state i and moment r.
+fn add_terms(sizes: Sizes, w: u64, table: &[[u64; 64]; 9], sums: &mut [u64; 512])
+    requires { ⌜ Addable sizes w (now sums) (now table) ⌝ }
+    ensures { λ a. ⌜ now (sums .exit) ≡ over (sizes .states * sizes .highest) (λ k. getD (now (sums .entry)) k 0 + term w (inTable (now (table .entry)) (sizes .highest) k)) (now (sums .entry)) ⌝ }
 {
     let highest = sizes.highest;
     let count = sizes.states * highest;
-    let mut next = sums;
+    let mut i = 0;
+    let mut r = 1;
     for k in 0..count {
-        let r = k % highest + 1;
-        let i = k / highest;
-        next[k] += one_term(w, table[r][i]);
+        sums[k] += muldiv::over_trillion(w, table[r][i]);
+        if r == highest {
+            r = 1;
+            i += 1;
+        } else {
+            r += 1;
+        }
     }
-    next
-}
-
-// The sums before any term.
-fn no_sums() -> [u64; 512]
-    ensures { λ r. ⌜ r ≡ zeros 512 ⌝ }
-{
-    [0u64; 512]
 }
 
 // A for all cells: the sums over n = 0 to N of w(n) * U(n,r) over 10^12. The vectors of each n are computed once.
 fn accumulate(
     sizes: Sizes,
-    chain: &[u64; 4096],
+    chain: &[u32],
     rewards: &[u64; 64],
     weights: &[u64; poisson::LEVELS],
     level: u64,
@@ -68,14 +54,13 @@ fn accumulate(
     ensures { λ a. ⌜ a ≡ partSums (arrays sizes (now (chain .entry)) (now (rewards .entry))) (now (weights .entry)) (sizes .highest) (level + 1) ⌝ }
 {
     let mut table = vectors::first_table(sizes, rewards);
-    let mut sums = add_terms(sizes, weights[0], no_sums(), table);
+    let mut sums = [0u64; 512];
+    add_terms(sizes, weights[0], &table, &mut sums);
     let mut n: u64 = 0;
     while n < level {
         n += 1;
-        let next = vectors::next_table(sizes, chain, rewards, n, table);
-        table = next;
-        let more = add_terms(sizes, weights[n as usize], sums, table);
-        sums = more;
+        vectors::next_table(sizes, chain, rewards, n, &mut table);
+        add_terms(sizes, weights[n as usize], &table, &mut sums);
     }
     sums
 }
@@ -103,7 +88,7 @@ fn write_moments(sums: &[u64; 512], total: u64, count: usize, cells: &mut [u64])
 // The level of X and ε, and the moments of a chain in arrays, written into the cells.
 fn solve(
     sizes: Sizes,
-    chain: &[u64; 4096],
+    chain: &[u32],
     rewards: &[u64; 64],
     x: u64,
     tolerance: u64,
@@ -112,26 +97,41 @@ fn solve(
     requires { ⌜ Solvable sizes (now chain) (now rewards) x tolerance × (sizes .states * sizes .highest ≤ length (now cells)) ⌝ }
     ensures { λ n. ⌜ (n ≡ level x tolerance) × (now (cells .exit) ≡ over (sizes .states * sizes .highest) (cellMean (arrays sizes (now (chain .entry)) (now (rewards .entry))) x (sizes .highest) (level x tolerance)) (now (cells .entry))) ⌝ }
 {
-    let weights = poisson::weights(x);
-    let cut = poisson::truncate(&weights, x, tolerance);
+    let mut weights = [0u64; poisson::LEVELS];
+    let cut = poisson::truncate(x, tolerance, &mut weights);
     let level = cut.level;
     let sums = accumulate(sizes, chain, rewards, &weights, level);
     write_moments(&sums, cut.sum, sizes.states * sizes.highest, cells);
     level
 }
 
-// The level and the moments of an accepted file: what it states is read into arrays.
-fn fill(file: &[u8], cells: &mut [u64]) -> u64
-    requires { ⌜ AcceptedFile (now file) (length (now cells)) ⌝ }
+// The level and the moments of an accepted file: what it states is read, its chain into the entries that
+// are lent.
+fn fill_by(file: &[u8], chain: &mut [u32], cells: &mut [u64]) -> u64
+    requires { ⌜ AcceptedFile (now file) (length (now cells)) × (stateCount (now file) * stateCount (now file) ≤ length (now chain)) ⌝ }
     ensures { λ n. ⌜ (n ≡ modelLevel (modelOf (now (file .entry)))) × (now (cells .exit) ≡ cellsAfter (accepted n) (now (file .entry)) (now (cells .entry))) ⌝ }
 {
     let sums = reader::row_sums(file);
     let sizes = reader::sizes_of(file, &sums);
-    let chain = reader::chain_of(file, &sums, sizes.rate);
+    reader::write_chain(file, &sums, sizes.rate, chain);
     let rewards = reader::rewards_of(file);
     let x = reader::jump_millionths(sizes.rate, reader::time(file));
     let tolerance = reader::tolerance(file);
-    solve(sizes, &chain, &rewards, x, tolerance, cells)
+    solve(sizes, chain, &rewards, x, tolerance, cells)
+}
+
+// The same, with entries enough for the chain.
+fn fill(file: &[u8], cells: &mut [u64]) -> u64
+    requires { ⌜ AcceptedFile (now file) (length (now cells)) ⌝ }
+    ensures { λ n. ⌜ (n ≡ modelLevel (modelOf (now (file .entry)))) × (now (cells .exit) ≡ cellsAfter (accepted n) (now (file .entry)) (now (cells .entry))) ⌝ }
+{
+    let states = reader::state_count(file);
+    if states <= FEW {
+        let mut chain = [0u32; FEW * FEW];
+        return fill_by(file, &mut chain, cells);
+    }
+    let mut chain = [0u32; 4096];
+    fill_by(file, &mut chain, cells)
 }
 
 // The call: the first row of the table of refusals that holds, with no cell touched; or the level N,

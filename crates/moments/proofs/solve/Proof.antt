@@ -8,26 +8,25 @@ use Rattle.moments.proofs.solve.Tie as tie
 
 accumulate-requires : tie.Need-accumulate-requires
 accumulate-requires c κs =
-    rw (c .before .truncate .ensures .is-level)
-    (summable _ _ _ _ _ (c .before .before .before .before .before .pre .0) _ (c .before .before .before .weights .ensures))
+    let cut = c .before .truncate .ensures in
+    rw (cut .is-level) (summable _ _ _ _ _ (c .before .before .before .before .before .pre .0) _ _ (cut .weights))
 
 write-moments-requires : tie.Need-write-moments-requires
 write-moments-requires c κs =
     let start = c .before .before .before .before .before .before .before .before .before in
     let cut = c .before .before .before .before .before .truncate .ensures in
-    (divisible _ _ _ _ _ (start .pre .0) _ (c .before .before .before .before .before .before .before .weights .ensures) _ _ _ (rw (cut .is-level) at (c .before .before .before .accumulate .ensures)) (cut .is-sum) (omega arith), omega (arith, start .pre .1))
+    (divisible _ _ _ _ _ (start .pre .0) _ _ (cut .weights) _ _ _ (rw (cut .is-level) at (c .before .before .before .accumulate .ensures)) (cut .is-sum) (omega arith), omega (arith, start .pre .1))
 
 returns : tie.Need-returns
 returns c =
     let start = c .before .before .before .before .before .before .before .before .before .before .before .before in
     let cut = c .before .before .before .before .before .before .before .before .truncate .ensures in
-    (cut .is-level, c .before .before .write-moments .ensures ∙ means-are _ _ _ _ _ (start .pre .0) _ (c .before .before .before .before .before .before .before .before .before .before .weights .ensures) _ _ _ _ (rw (cut .is-level) at (c .before .before .before .before .before .before .accumulate .ensures)) (cut .is-sum) (omega arith))
+    (cut .is-level, c .before .before .write-moments .ensures ∙ means-are _ _ _ _ _ (start .pre .0) _ _ (cut .weights) _ _ _ _ (rw (cut .is-level) at (c .before .before .before .before .before .before .accumulate .ensures)) (cut .is-sum) (omega arith))
 
 pub solve-spec : {M : Type 1} → statement M
 solve-spec =
     tie.close
     (tie.spec
-    (λ c κs. search needs)
     (λ c κs. search needs)
     accumulate-requires
     (λ c. search needs)

@@ -98,9 +98,9 @@ write-row-spec =
     loop-holds
     entry-in-requires
     (λ c. omega (arith, c .entry-in .ensures .1 (start c .pre .stays-max)))
-    (λ c. omega (arith, place-max c, square-max (M c) (omega arith)))
-    (λ c. omega (arith, place-max c, square-max (M c) (omega arith)))
-    (λ c. omega (arith, place-max c, square-max (M c) (omega arith)))
+    (λ c. omega (arith, place-max c, square-max (M c) 64 (omega arith)))
+    (λ c. omega (arith, place-max c, square-max (M c) 64 (omega arith)))
+    (λ c. omega (arith, place-max c, square-max (M c) 64 (omega arith)))
     (λ c. omega (arith, place-max c, square c))
     (λ c. omega arith)
     (λ c. omega arith)

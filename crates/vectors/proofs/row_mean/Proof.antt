@@ -37,8 +37,8 @@ module _ (c : tie.In-loop Inv-loop μ-loop) where
   place-max : start .args .i * start .args .sizes .states + c .before .loop .j < start .args .sizes .states * start .args .sizes .states
   place-max = place-below (start .args .i) (c .before .loop .j) (start .args .sizes .states) (start .args .sizes .states) (omega arith) (omega arith)
 
-  count-max : start .args .sizes .states * start .args .sizes .states ≤ 4096
-  count-max = square-max (start .args .sizes .states) (omega arith)
+  count-max : start .args .sizes .states * start .args .sizes .states ≤ 64 * 64
+  count-max = square-max (start .args .sizes .states) 64 (omega arith)
 
 -- with one product more the total is still a part of the row's sum
 module _ (c : tie.After-wide Inv-loop μ-loop) where

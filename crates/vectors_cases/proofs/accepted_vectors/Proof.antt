@@ -15,14 +15,14 @@ write-chain-requires : tie.Need-write-chain-requires
 write-chain-requires c κs =
     let start = c .before .before .before .before .before .before in
     let rate : c .before .before .sizes-of .result .rate ≡ uniformRate (modelOf (start .args .file .now)) = ap (λ (z : Sizes). z .rate) (c .before .before .sizes-of .ensures) in
-    ((start .pre .0 .framed, square-max _ (start .pre .0 .framed .states-max)), (c .before .before .before .before .row-sums .ensures, (rate, omega (arith, start .pre .0 .limits .rate-max))))
+    ((start .pre .0 .framed, square-max _ 64 (start .pre .0 .framed .states-max)), (c .before .before .before .before .row-sums .ensures, (rate, omega (arith, start .pre .0 .limits .rate-max))))
 
 tables-requires : tie.Need-tables-requires
 tables-requires c κs =
     let sizes = c .before .before .before .before .before .before .before .sizes-of .ensures in
     let start = c .before .before .before .before .before .before .before .before .before .before .before in
     let given = start .pre .0 in (
-      rw (sizes, c .before .before .before .before .write-chain .ensures, c .before .before .rewards-of .ensures) (model-ready _ _ (given .limits) (omega (arith, length-replicate {A = ℕ} 4096 0, square-max _ (given .framed .states-max)))),
+      rw (sizes, c .before .before .before .before .write-chain .ensures, c .before .before .rewards-of .ensures) (model-ready _ _ (given .limits) (omega (arith, length-replicate {A = ℕ} 4096 0, square-max _ 64 (given .framed .states-max)))),
       rw sizes (given .limits .highest-max),
       omega arith,
     )
