@@ -30,19 +30,6 @@ module _ {A : Type 0} where
   firsts-same zero f g h = refl
   firsts-same (suc n) f g h = ap₂ (λ (l : List A) (x : A). l ++ (x ∷ [])) (firsts-same n f g (λ i l. h i (omega arith))) (h n (omega arith))
 
-  -- a list is the list of its entries
-  pub firsts-of : (d : A) (n : ℕ) (f : ℕ → A) (l : List A) → length l ≡ n → ((i : ℕ) → i < n → getD l i d ≡ f i) → l ≡ firsts n f
-  firsts-of d n f l e h = ext-getD d l (firsts n f) (e ∙ sym (length-firsts n f)) (λ i b. h i (omega arith) ∙ sym (getD-firsts d n f i (omega arith)))
-
-  -- a store at k: the list of the entries that it leaves, and of the one stored
-  pub firsts-store : (d : A) (n : ℕ) (f g : ℕ → A) (k : ℕ) → k < n → ((i : ℕ) → i < n → (i ≡ k → ⊥) → f i ≡ g i) → set (firsts n f) k (g k) ≡ firsts n g
-  firsts-store d n f g k h other =
-      firsts-of d n g (set (firsts n f) k (g k)) (length-set (firsts n f) k (g k) ∙ length-firsts n f)
-      (λ i l. elim (ℕ-discrete i k) [
-        | yes e ↦ rw e (getD-set-same (firsts n f) k (g k) d (omega (arith, length-firsts n f)))
-        | no ne ↦ getD-set-other (firsts n f) k i (g k) d ne ∙ getD-firsts d n f i l ∙ other i l ne
-      ])
-
   pub over-none : (f : ℕ → A) (l : List A) → over 0 f l ≡ l
   unfolding over firsts
   over-none f l = refl
@@ -100,3 +87,22 @@ module _ {A : Type 0} where
       over-further d n size f l h (omega arith) rest
       ∙ ap (λ (x : List A). firsts size f ++ x) (drop-of-length-le l {i = size} (omega arith))
       ∙ append-nil (firsts size f)
+
+  -- filled up to n, then up to k with other entries: as if filled up to k at once
+  pub over-again : (d : A) (n k : ℕ) (f g : ℕ → A) (l now : List A) → n ≤ k → k ≤ length l → now ≡ over n f l → over k g now ≡ over k g l
+  over-again d n k f g l now low room e =
+      ap (over k g) e
+      ∙ ext-getD d (over k g (over n f l)) (over k g l) (length-over k g (over n f l) (omega (arith, filled)) ∙ filled ∙ sym (length-over k g l room)) (λ i b. same i)
+    where
+      filled : length (over n f l) ≡ length l
+      filled = length-over n f l (omega arith)
+
+      same : (i : ℕ) → getD (over k g (over n f l)) i d ≡ getD (over k g l) i d
+      same i =
+          elim (decLt i k) [
+            | yes b ↦ getD-over d k g (over n f l) i b ∙ sym (getD-over d k g l i b)
+            | no p ↦
+                getD-over-past d k g (over n f l) i (omega (arith, p))
+                ∙ getD-over-past d n f l i (omega (arith, p))
+                ∙ sym (getD-over-past d k g l i (omega (arith, p)))
+          ]

@@ -123,10 +123,6 @@ module _ (X : ℕ) where
   unfolding weightSum
   weightSum-next n = rw add-one (sum-suc (suc n) (weight X))
 
-  pub weightSum-zero : weightSum X 0 ≡ weight X 0
-  unfolding weightSum sum
-  weightSum-zero = omega arith
-
   -- from 2m + 1 on each weight is at most half of the one before
   pub halves : (n : ℕ) → 2 * mode X + 1 ≤ n → weight X (n + 1) * 2 ≤ weight X n
   halves n h =

@@ -1,7 +1,8 @@
 -- The sums and their quotients are the weighted means, and those of a model's arrays are its moments.
 use mathlib.Core.List.{List}
-use mathlib.Core.Path.{_≡_, _∙_, ap, ap₂}
+use mathlib.Core.Path.{_≡_, refl, _∙_, ap, ap₂}
 use Prim.Native.Nat.{ℕ, suc, _+_, _*_, _/_, _%_, _≤_, _<_}
+use native.Mathlib.Nat.{le-refl}
 use native.Mathlib.Numerals.{add-one}
 use native.Mathlib.Omega.{arith}
 use lib.ListN.{length, getD}
@@ -13,17 +14,17 @@ use Rattle.definitions.specs.Weights.{weight, weightSum}
 use Rattle.definitions.specs.Level.{level}
 use Rattle.definitions.specs.Moment.{term, weighted, lastQuotient, weightedMean, moment, cell, modelLevel}
 use Rattle.laws.specs.SumLaws.{sum-same}
-use Rattle.laws.specs.ListLaws.{over-same}
+use Rattle.laws.specs.ListLaws.{over-same, over-again}
 use Rattle.laws.specs.ChainLaws.{SameChain, arrays-same}
 use Rattle.laws.specs.VectorLaws.{U-bound, U-same}
 use Rattle.laws.specs.WeightLaws.{weight-max, weightSum-min, weightSum-max}
 use Rattle.laws.specs.LevelLaws.{LEVELS, level-max, level-mode}
-use Rattle.laws.specs.MomentLaws.{state-of-cell, count-max, weighted-max}
+use Rattle.laws.specs.MomentLaws.{state-of-cell, weighted-max}
 use Rattle.laws.specs.Acceptance.{WithinLimits, stochastic}
 use Rattle.poisson.specs.CallerLaws.{weight-at}
 use Rattle.vectors.specs.ModelLaws.{held, model-ready}
 use Rattle.moments.specs.Running.{partSum, partSums, Summable, Divisible}
-use Rattle.moments.specs.RunningLaws.{sums-at}
+use Rattle.moments.specs.RunningLaws.{length-sums, sums-at}
 use Rattle.moments.specs.Solving.{cellMean, Solvable, ReadAs}
 
 -- equal values up to N have equal weighted means
@@ -59,38 +60,43 @@ module _ (z : Sizes) (c f : List ℕ) (X ε : ℕ) (g : Solvable z c f X ε) (be
         weight-max = λ n h. rw (weight-in n h) (weight-max X n);
       }
 
-  -- a sum up to the level is A
-  pub sum-is : (k : ℕ) → k < M * R → getD (partSums ch w R (level X ε + 1)) k 0 ≡ weighted X (λ n. U ch n (k % R + 1) (k / R)) (level X ε)
-  unfolding partSum weighted
-  sum-is k l =
-      sums-at ch w R (level X ε + 1) k (omega (arith, count-max M R (g .ready .rewards .states-max) (g .highest-max))) l
-      ∙ ap (λ (n : ℕ). partSum ch w R n k) (add-one (level X ε))
-      ∙ sum-same (suc (level X ε)) (λ j. term (getD w j 0) (U ch j (k % R + 1) (k / R))) (λ j. term (weight X j) (U ch j (k % R + 1) (k / R)))
-      (λ j b. ap (λ (v : ℕ). term v (U ch j (k % R + 1) (k / R))) (weight-in j (omega arith)))
+  -- the sums up to the level, in the cells
+  module _ (cells : List ℕ) (enough : M * R ≤ length cells) where
+    abbrev sums : List ℕ
+    sums = partSums ch w R (level X ε + 1) cells
 
-  sum-max : (k : ℕ) → k < M * R → weighted X (λ n. U ch n (k % R + 1) (k / R)) (level X ε) ≤ weightSum X (level X ε)
-  sum-max k l =
-      weighted-max X (level X ε) (λ n. U ch n (k % R + 1) (k / R))
-      (λ n h. U-bound ch (g .ready .stochastic) n (k % R + 1) (k / R) (state-of-cell k M R l))
+    -- each is A
+    sum-is : (k : ℕ) → k < M * R → getD sums k 0 ≡ weighted X (λ n. U ch n (k % R + 1) (k / R)) (level X ε)
+    unfolding partSum weighted
+    sum-is k l =
+        sums-at ch w R (level X ε + 1) k cells l
+        ∙ ap (λ (n : ℕ). partSum ch w R n k) (add-one (level X ε))
+        ∙ sum-same (suc (level X ε)) (λ j. term (getD w j 0) (U ch j (k % R + 1) (k / R))) (λ j. term (weight X j) (U ch j (k % R + 1) (k / R)))
+        (λ j b. ap (λ (v : ℕ). term v (U ch j (k % R + 1) (k / R))) (weight-in j (omega arith)))
 
-  -- any part of the sums may be divided
-  pub divisible : (a : List ℕ) (S count : ℕ) → a ≡ partSums ch w R (level X ε + 1) → S ≡ weightSum X (level X ε) → count ≤ M * R → Divisible a S count
-  divisible a S count ea es part =
-      rw (ea, es)
-      (record {
-        count-max = omega (arith, part, count-max M R (g .ready .rewards .states-max) (g .highest-max));
-        total-pos = omega (arith, weightSum-min X (level X ε) (level-mode X ε (g .jumps-max) (g .tolerance-pos)));
-        total-max = omega (arith, weightSum-max X (level X ε), short);
-        below = λ k l. rw (sum-is k (omega (arith, part))) (sum-max k (omega (arith, part)));
-      })
+    sum-max : (k : ℕ) → k < M * R → weighted X (λ n. U ch n (k % R + 1) (k / R)) (level X ε) ≤ weightSum X (level X ε)
+    sum-max k l =
+        weighted-max X (level X ε) (λ n. U ch n (k % R + 1) (k / R))
+        (λ n h. U-bound ch (g .ready .stochastic) n (k % R + 1) (k / R) (state-of-cell k M R l))
 
-  -- the quotients of the sums are the cells' means
-  pub means-are : (a : List ℕ) (S count : ℕ) (cells : List ℕ) → a ≡ partSums ch w R (level X ε + 1) → S ≡ weightSum X (level X ε) → count ≡ M * R → over count (λ k. lastQuotient (getD a k 0) S) cells ≡ over (M * R) (cellMean ch X R (level X ε)) cells
-  unfolding cellMean weightedMean
-  means-are a S count cells ea es all =
-      rw (ea, es, all)
-      (over-same (M * R) (λ k. lastQuotient (getD (partSums ch w R (level X ε + 1)) k 0) (weightSum X (level X ε))) (cellMean ch X R (level X ε)) cells
-      (λ k l. ap (λ (v : ℕ). lastQuotient v (weightSum X (level X ε))) (sum-is k l)))
+    -- any part of them may be divided
+    pub divisible : (a : List ℕ) (S count : ℕ) → a ≡ sums → S ≡ weightSum X (level X ε) → count ≤ M * R → Divisible a S count
+    divisible a S count ea es part =
+        rw (ea, es)
+        (record {
+          enough = omega (arith, part, length-sums ch w R (level X ε + 1) cells enough);
+          total-pos = omega (arith, weightSum-min X (level X ε) (level-mode X ε (g .jumps-max) (g .tolerance-pos)));
+          total-max = omega (arith, weightSum-max X (level X ε), short);
+          below = λ k l. rw (sum-is k (omega (arith, part))) (sum-max k (omega (arith, part)));
+        })
+
+    -- and their quotients are the cells' means
+    pub means-are : (a : List ℕ) (S count : ℕ) → a ≡ sums → S ≡ weightSum X (level X ε) → count ≡ M * R → over count (λ k. lastQuotient (getD a k 0) S) a ≡ over (M * R) (cellMean ch X R (level X ε)) cells
+    unfolding cellMean weightedMean partSums
+    means-are a S count ea es all =
+        rw (ea, es, all)
+        (over-again 0 (M * R) (M * R) (partSum ch w R (level X ε + 1)) _ cells sums (le-refl (M * R)) enough refl
+        ∙ over-same (M * R) _ (cellMean ch X R (level X ε)) cells (λ k l. ap (λ (v : ℕ). lastQuotient v (weightSum X (level X ε))) (sum-is k l)))
 
 module _ (m : Model) (g : WithinLimits m) (l : List ℕ) where
   same : SameChain (held m l) (chainOf m)

@@ -21,18 +21,28 @@ use definitions::Sizes;
 // for the clearing of a large array.
 const FEW: usize = 16;
 
-// The sums A with the terms of one n added: w is w(n), and row r of the table is U(n,r). Cell k is that of
-// state i and moment r.
-fn add_terms(sizes: Sizes, w: u64, table: &[[u64; 64]; 9], sums: &mut [u64; 512])
-    requires { ⌜ Addable sizes w (now sums) (now table) ⌝ }
-    ensures { λ a. ⌜ now (sums .exit) ≡ over (sizes .states * sizes .highest) (λ k. getD (now (sums .entry)) k 0 + term w (inTable (now (table .entry)) (sizes .highest) k)) (now (sums .entry)) ⌝ }
+// No term yet: 0 in the first cells.
+fn clear(count: usize, cells: &mut [u64])
+    requires { ⌜ count ≤ length (now cells) ⌝ }
+    ensures { λ r. ⌜ now (cells .exit) ≡ over count (λ k. 0) (now (cells .entry)) ⌝ }
+{
+    for k in 0..count {
+        cells[k] = 0;
+    }
+}
+
+// The sums A, which stand in the cells, with the terms of one n added: w is w(n), and row r of the table is
+// U(n,r). Cell k is that of state i and moment r.
+fn add_terms(sizes: Sizes, w: u64, table: &[[u64; 64]; 9], cells: &mut [u64])
+    requires { ⌜ Addable sizes w (now cells) (now table) ⌝ }
+    ensures { λ r. ⌜ now (cells .exit) ≡ over (sizes .states * sizes .highest) (λ k. getD (now (cells .entry)) k 0 + term w (inTable (now (table .entry)) (sizes .highest) k)) (now (cells .entry)) ⌝ }
 {
     let highest = sizes.highest;
     let count = sizes.states * highest;
     let mut i = 0;
     let mut r = 1;
     for k in 0..count {
-        sums[k] += muldiv::over_trillion(w, table[r][i]);
+        cells[k] += muldiv::over_trillion(w, table[r][i]);
         if r == highest {
             r = 1;
             i += 1;
@@ -42,27 +52,30 @@ fn add_terms(sizes: Sizes, w: u64, table: &[[u64; 64]; 9], sums: &mut [u64; 512]
     }
 }
 
-// A for all cells: the sums over n = 0 to N of w(n) * U(n,r) over 10^12. The vectors of each n are computed once.
+// A in its cell for every state and moment: the sum over n = 0 to N of w(n) * U(n,r) over 10^12. The vectors of
+// each n are computed once.
 fn accumulate(
     sizes: Sizes,
     chain: &[u32],
     rewards: &[u64; 64],
     weights: &[u64; poisson::LEVELS],
     level: u64,
-) -> [u64; 512]
-    requires { ⌜ Summable sizes (now chain) (now rewards) (now weights) level ⌝ }
-    ensures { λ a. ⌜ a ≡ partSums (arrays sizes (now (chain .entry)) (now (rewards .entry))) (now (weights .entry)) (sizes .highest) (level + 1) ⌝ }
+    cells: &mut [u64],
+)
+    requires { ⌜ Summable sizes (now chain) (now rewards) (now weights) level × (sizes .states * sizes .highest ≤ length (now cells)) ⌝ }
+    ensures { λ r. ⌜ now (cells .exit) ≡ partSums (arrays sizes (now (chain .entry)) (now (rewards .entry))) (now (weights .entry)) (sizes .highest) (level + 1) (now (cells .entry)) ⌝ }
 {
-    let mut table = vectors::first_table(sizes, rewards);
-    let mut sums = [0u64; 512];
-    add_terms(sizes, weights[0], &table, &mut sums);
+    let zeros = [0u64; 64];
+    let mut table = [zeros; 9];
+    vectors::first_table(sizes, rewards, &mut table);
+    clear(sizes.states * sizes.highest, cells);
+    add_terms(sizes, weights[0], &table, cells);
     let mut n: u64 = 0;
     while n < level {
         n += 1;
         vectors::next_table(sizes, chain, rewards, n, &mut table);
-        add_terms(sizes, weights[n as usize], &table, &mut sums);
+        add_terms(sizes, weights[n as usize], &table, cells);
     }
-    sums
 }
 
 // The last quotient: A * 10^12 over S(N), to the nearest tick, a half going up. The half ticks are
@@ -75,13 +88,13 @@ fn last_quotient(sum: u64, total: u64) -> u64
     (half_ticks + 1) / 2
 }
 
-// The moments of all cells: the last quotient of each sum.
-fn write_moments(sums: &[u64; 512], total: u64, count: usize, cells: &mut [u64])
-    requires { ⌜ Divisible (now sums) total count × (count ≤ length (now cells)) ⌝ }
-    ensures { λ r. ⌜ now (cells .exit) ≡ over count (λ k. lastQuotient (getD (now (sums .entry)) k 0) total) (now (cells .entry)) ⌝ }
+// The moments in the place of the sums: the last quotient of each.
+fn divide_sums(total: u64, count: usize, cells: &mut [u64])
+    requires { ⌜ Divisible (now cells) total count ⌝ }
+    ensures { λ r. ⌜ now (cells .exit) ≡ over count (λ k. lastQuotient (getD (now (cells .entry)) k 0) total) (now (cells .entry)) ⌝ }
 {
     for k in 0..count {
-        cells[k] = last_quotient(sums[k], total);
+        cells[k] = last_quotient(cells[k], total);
     }
 }
 
@@ -100,8 +113,8 @@ fn solve(
     let mut weights = [0u64; poisson::LEVELS];
     let cut = poisson::truncate(x, tolerance, &mut weights);
     let level = cut.level;
-    let sums = accumulate(sizes, chain, rewards, &weights, level);
-    write_moments(&sums, cut.sum, sizes.states * sizes.highest, cells);
+    accumulate(sizes, chain, rewards, &weights, level, cells);
+    divide_sums(cut.sum, sizes.states * sizes.highest, cells);
     level
 }
 

@@ -4,14 +4,14 @@ use mathlib.Core.Path.{_≡_, refl, sym, ap, _∙_}
 use Prim.Native.Nat.{ℕ, _+_, _≤_, _<_}
 use native.Mathlib.Omega.{arith}
 use lib.Dec.{leb}
-use lib.ListN.{length, getD, set, replicate, length-replicate, getD-replicate}
+use lib.ListN.{length, getD, set, length-replicate, getD-replicate}
 use borrow.Author.Tests.{le-leb, lt-leb}
 use Rattle.definitions.specs.Sums.{over, pick}
 use Rattle.definitions.specs.Chain.{Chain, padded}
 use Rattle.definitions.specs.Vectors.{ONE, U, vector}
 use Rattle.laws.specs.ListLaws.{length-firsts, getD-firsts, getD-over, getD-over-past, over-none, over-same, over-store, over-further, over-whole}
 use Rattle.laws.specs.ArrayLaws.{zeros}
-use Rattle.vectors.specs.Table.{tableOf}
+use Rattle.vectors.specs.Table.{blank, tableOf}
 use Rattle.vectors.specs.StepLaws.{getD-vector, vector-zero}
 
 -- 9 rows, with zeros past row R
@@ -19,11 +19,8 @@ pub record Spare (R : ℕ) (l : List (List ℕ)) : Type 0 where
   pub rows : length l ≡ 9
   pub past : (r : ℕ) → R < r → r < 9 → getD l r [] ≡ zeros 64
 
--- 9 rows of zeros
-abbrev pub blank : List (List ℕ)
-blank = replicate 9 (zeros 64)
-
 pub blank-spare : (R : ℕ) → Spare R blank
+unfolding blank
 blank-spare R = record { rows = length-replicate 9 (zeros 64); past = λ r h l. getD-replicate 9 r (zeros 64) [] l }
 
 module _ (ch : Chain) (R n : ℕ) (highest-max : R ≤ 8) where
@@ -67,8 +64,8 @@ module _ (ch : Chain) (n : ℕ) (l : List (List ℕ)) where
       row r = pick (leb r R) (vector ch n r) (zeros 64)
 
 -- from zeros: U(n,0) is the first row
-pub table-start : (ch : Chain) (n : ℕ) → ch .states ≤ 64 → {v : List ℕ} → v ≡ padded (ch .states) (λ i. ONE) → set blank 0 v ≡ over (0 + 1) (vector ch n) blank
-table-start ch n h e = table-more ch n blank 0 blank (length-replicate 9 (zeros 64)) (omega arith) (sym (over-none (vector ch n) blank)) (e ∙ vector-zero ch h n)
+pub table-start : (ch : Chain) (n : ℕ) (t : List (List ℕ)) → ch .states ≤ 64 → t ≡ blank → {v : List ℕ} → v ≡ padded (ch .states) (λ i. ONE) → set t 0 v ≡ over (0 + 1) (vector ch n) blank
+table-start ch n t h so e = table-more ch n blank 0 t (blank-spare 0 .rows) (omega arith) (so ∙ sym (over-none (vector ch n) blank)) (e ∙ vector-zero ch h n)
 
 -- over the table of another n, m: its first row is U(n,0) too, and the rows that are not filled yet are those of m
 module _ (ch : Chain) (R n m : ℕ) (highest-max : R ≤ 8) where

@@ -10,7 +10,7 @@ ghost use Rattle.definitions.specs.Chain.{arrays, padded};
 ghost use Rattle.definitions.specs.Vectors.{rowMean, rewardShare, mix, nextEntry, ONE};
 ghost use Rattle.laws.specs.ArrayLaws.{entryOf};
 ghost use Rattle.vectors.specs.Ready.{RowReady, MixReady, StepReady, Ticks, RewardsReady, Ready};
-ghost use Rattle.vectors.specs.Table.{tableOf};
+ghost use Rattle.vectors.specs.Table.{blank, tableOf};
 use definitions::ONE;
 use definitions::Sizes;
 
@@ -97,21 +97,18 @@ fn shares(sizes: Sizes, rewards: &[u64; 64], same: [u64; 64]) -> [u64; 64]
     next
 }
 
-// The vectors of n = 0: row r is U(0,r) for r = 0 to R, the highest moment; the rows past R are zeros.
-// It reads no chain.
-pub fn first_table(sizes: Sizes, rewards: &[u64; 64]) -> [[u64; 64]; 9]
-    requires { ⌜ RewardsReady sizes (now rewards) × (sizes .highest ≤ 8) ⌝ }
-    ensures { λ t. ⌜ ((c : List ℕ) → t ≡ tableOf (arrays sizes c (now (rewards .entry))) (sizes .highest) 0) ⌝ }
+// The vectors of n = 0, in a table of zeros: row r becomes U(0,r) for r = 0 to R, the highest moment. It reads
+// no chain.
+pub fn first_table(sizes: Sizes, rewards: &[u64; 64], table: &mut [[u64; 64]; 9])
+    requires { ⌜ RewardsReady sizes (now rewards) × (sizes .highest ≤ 8) × (now table ≡ blank) ⌝ }
+    ensures { λ t. ⌜ ((c : List ℕ) → now (table .exit) ≡ tableOf (arrays sizes c (now (rewards .entry))) (sizes .highest) 0) ⌝ }
 {
     let highest = sizes.highest;
-    let zeros = [0u64; 64];
-    let mut table = [zeros; 9];
     table[0] = ones(sizes.states);
     for r in 1..highest + 1 {
         let same = table[r - 1];
         table[r] = shares(sizes, rewards, same);
     }
-    table
 }
 
 // The vectors of n in the place of those of n - 1: R steps. Row r is read as U(n-1,r) and becomes U(n,r); the

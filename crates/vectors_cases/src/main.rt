@@ -47,7 +47,9 @@ fn accepted_vectors(file: &[u8], last: u64)
 fn tables(sizes: Sizes, chain: &[u32], rewards: &[u64; 64], last: u64)
     requires { ⌜ Ready sizes (now chain) (now rewards) × (sizes .highest ≤ 8) × (last ≤ 1024) ⌝ }
 {
-    let mut current = vectors::first_table(sizes, rewards);
+    let zeros = [0u64; 64];
+    let mut current = [zeros; 9];
+    vectors::first_table(sizes, rewards, &mut current);
     table(sizes, 0, last, &current);
     for n in 1..last + 1 {
         vectors::next_table(sizes, chain, rewards, n, &mut current);

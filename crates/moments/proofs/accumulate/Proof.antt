@@ -1,59 +1,97 @@
 -- The sums after n terms, and the vectors of n, as n rises to the level.
-use Prim.Native.Nat.{_+_, _-_, _≤_}
+use Prim.Native.Nat.{ℕ, _+_, _-_, _*_, _≤_}
 use native.Mathlib.Omega.{arith}
-use mathlib.Core.Path.{_≡_}
-use Rattle.definitions.specs.Chain.{arrays}
+use mathlib.Core.List.{List}
+use mathlib.Core.Path.{_≡_, refl, sym, _∙_, ap}
+use lib.ListN.{length}
+use Rattle.definitions.specs.Chain.{Chain, arrays}
 use Rattle.laws.specs.ArrayLaws.{zeros}
-use Rattle.vectors.specs.Table.{tableOf}
+use Rattle.laws.specs.MomentLaws.{count-max}
+use Rattle.vectors.specs.Table.{blank, tableOf}
 use Rattle.moments.specs.Running.{partSums}
-use Rattle.moments.specs.RunningLaws.{sums-none, may-add, added}
+use Rattle.moments.specs.RunningLaws.{length-sums, sums-none, sums-again, may-add, added}
 use Rattle.moments.proofs.accumulate.Statement.{statement}
 use Rattle.moments.proofs.accumulate.Tie as tie
 
 abbrev Inv-loop : tie.InvT-loop
-Inv-loop sizes chain rewards weights level table₀ sums₀ n₀ table sums n =
-    (n ≤ level) × (table ≡ tableOf (arrays sizes chain rewards) (sizes .highest) n) × (sums ≡ partSums (arrays sizes chain rewards) weights (sizes .highest) (n + 1))
+Inv-loop sizes chain rewards weights level cells₀ table₀ n₀ cells table n =
+    (n ≤ level) × (table ≡ tableOf (arrays sizes chain rewards) (sizes .highest) n) × (cells ≡ partSums (arrays sizes chain rewards) weights (sizes .highest) (n + 1) cells₀)
 
 abbrev μ-loop : tie.MeasureT-loop
-μ-loop sizes chain rewards weights level table₀ sums₀ n₀ table sums n = level - n
+μ-loop sizes chain rewards weights level cells₀ table₀ n₀ cells table n = level - n
+
+first-table-requires : tie.Need-first-table-requires Inv-loop μ-loop
+unfolding blank zeros
+first-table-requires c κs =
+    let start = c .before .before .before in
+    (start .pre .0 .ready .rewards, start .pre .0 .highest-max, refl)
 
 add-terms-requires : tie.Need-add-terms-requires Inv-loop μ-loop
-unfolding zeros
 add-terms-requires c κs =
-    let start = c .before .before .before .before .before in
-    may-add (start .args .sizes) _ _ _ _ (start .pre) 0 _ _ (omega arith) (sums-none _ _ _) (c .before .before .before .first-table .ensures (start .args .chain .now))
+    let start = c .before .before .before .before .before .before .before .before .before .before .before .before in
+    may-add (start .args .sizes) _ _ _ _ (start .pre .0) (start .args .cells .now) (start .pre .1) 0 _ _ (omega arith) (c .before .before .before .before .before .clear .ensures ∙ sums-none _ _ _ _) (c .before .before .before .before .before .before .before .before .first-table .ensures (start .args .chain .now))
+
+-- where the loop begins the sums have the terms of n = 0
+module _ (b : tie.After-slice-known3 Inv-loop μ-loop) where
+  abbrev start : tie.Start Inv-loop μ-loop
+  start = b .before .before .before .before .before .before .before .before .before .before .before .before .before .before .before
+
+  abbrev ch : Chain
+  ch = arrays (start .args .sizes) (start .args .chain .now) (start .args .rewards .now)
+
+  abbrev sums : ℕ → List ℕ → List ℕ
+  sums n l = partSums ch (start .args .weights .now) (start .args .sizes .highest) n l
+
+  abbrev first : List ℕ
+  first = b .before .before .add-terms .last .1 .1 .1 .0
+
+  table : b .before .before .before .before .before .before .before .before .before .before .before .first-table .last .1 .1 .0 ≡ tableOf ch (start .args .sizes .highest) 0
+  table = b .before .before .before .before .before .before .before .before .before .before .before .first-table .ensures (start .args .chain .now)
+
+  begun : first ≡ sums 1 (start .args .cells .now)
+  begun = added (start .args .sizes) _ _ _ _ (start .pre .0) (start .args .cells .now) (start .pre .1) 0 _ _ _ (b .before .before .before .before .before .before .before .before .clear .ensures ∙ sums-none _ _ _ _) table (b .before .before .add-terms .ensures)
+
+  -- over them it does not matter what stood in the cells before
+  again : (n : ℕ) → sums n first ≡ sums n (start .args .cells .now)
+  again n = sums-again ch _ _ 1 n (start .args .cells .now) first (start .pre .1) begun
+
+  enough : start .args .sizes .states * start .args .sizes .highest ≤ length first
+  enough = omega (arith, ap (length {A = ℕ}) begun, length-sums ch (start .args .weights .now) (start .args .sizes .highest) 1 (start .args .cells .now) (start .pre .1), start .pre .1)
 
 loop-holds : tie.Need-loop-holds Inv-loop μ-loop
-unfolding zeros
-loop-holds c =
-    let start = c .before .before .before .before .before .before in
-    let table = c .before .before .before .before .first-table .ensures (start .args .chain .now) in
-    (omega arith, table, added (start .args .sizes) _ _ _ _ (start .pre) 0 _ _ _ (sums-none _ _ _) table (c .add-terms .ensures))
+loop-holds c = (omega arith, table c, begun c ∙ sym (again c 1))
 
 next-table-requires : tie.Need-next-table-requires Inv-loop μ-loop
 next-table-requires c κs =
-    let start = c .before .before .before .before .before .before .before .before .before in
+    let given = start (c .before .before .before) .pre .0 in
     let turn = c .before .before .loop in
     let back : turn .n + 1 - 1 ≡ turn .n = omega arith in
-    ((start .pre .ready, start .pre .highest-max, omega arith, omega (arith, start .pre .level-max)), rw back (turn .inv .1))
+    ((given .ready, given .highest-max, omega arith, omega (arith, given .level-max)), rw back (turn .inv .1))
 
 add-terms-requires-2 : tie.Need-add-terms-requires-2 Inv-loop μ-loop
 add-terms-requires-2 c κs =
-    let start = c .before .before .before .before .before .before .before .before .before .before .before .before .before in
+    let b = c .before .before .before .before .before .before .before in
     let turn = c .before .before .before .before .before .before .loop in
-    may-add (start .args .sizes) _ _ _ _ (start .pre) (turn .n + 1) _ _ (omega arith) (turn .inv .2) (c .before .before .before .next-table .ensures)
+    may-add (start b .args .sizes) _ _ _ _ (start b .pre .0) (first b) (enough b) (turn .n + 1) _ _ (omega arith) (turn .inv .2) (c .before .before .before .next-table .ensures)
 
 loop-again : tie.Need-loop-again Inv-loop μ-loop
 loop-again c =
-    let start = c .before .before .before .before .before .before .before .before .before .before .before .before .before .before in
-    let turn = c .before .before .before .before .before .before .before .loop in
-    let table = c .before .before .before .before .next-table .ensures in
-    (omega arith, table, added (start .args .sizes) _ _ _ _ (start .pre) (turn .n + 1) _ _ _ (turn .inv .2) table (c .add-terms2 .ensures))
+    let b = c .before .before .before .before .before .before .before .before .before .before in
+    let turn = c .before .before .before .before .before .before .before .before .before .loop in
+    let next = c .before .before .before .before .before .before .next-table .ensures in
+    (omega arith, next, added (start b .args .sizes) _ _ _ _ (start b .pre .0) (first b) (enough b) (turn .n + 1) _ _ _ (turn .inv .2) next (c .before .before .add-terms2 .ensures))
 
-returns : tie.Need-returns Inv-loop μ-loop
-returns c =
-    let done : c .before .loop .n ≡ c .before .before .before .before .before .before .before .before .args .level = omega arith in
-    rw done at (c .before .loop .inv .2)
+-- the sums up to the level, over what stood in the cells
+all : (c : tie.After-loop Inv-loop μ-loop) → let b = c .before .before in c .before .loop .cells ≡ sums b (start b .args .level + 1) (start b .args .cells .now)
+all c =
+    let b = c .before .before in
+    let done : c .before .loop .n ≡ start b .args .level = omega arith in
+    rw done at (c .before .loop .inv .2) ∙ again b (start b .args .level + 1)
+
+same-length : tie.Need-same-length Inv-loop μ-loop
+same-length c =
+    let b = c .before .before in
+    ap (length {A = ℕ}) (all c) ∙ length-sums (ch b) _ _ (start b .args .level + 1) (start b .args .cells .now) (start b .pre .1)
 
 pub accumulate-spec : {M : Type 1} → statement M
 accumulate-spec =
@@ -61,15 +99,18 @@ accumulate-spec =
     (tie.spec
     Inv-loop
     μ-loop
-    (λ c κs. (c .before .pre .ready .rewards, c .before .pre .highest-max))
+    first-table-requires
+    (λ c. let start = c .before .before .before .before .before in omega (arith, count-max (start .args .sizes .states) (start .args .sizes .highest) (start .pre .0 .ready .rewards .states-max) (start .pre .0 .highest-max)))
+    (λ c κs. c .before .before .before .before .before .before .pre .1)
     (λ c. omega arith)
     add-terms-requires
     loop-holds
     (λ c. omega arith)
     next-table-requires
-    (λ c. omega (arith, c .before .before .before .before .before .before .before .before .before .before .pre .level-max))
-    (λ c. omega (arith, c .before .before .before .before .before .before .before .before .before .before .pre .level-max))
+    (λ c. omega (arith, start (c .before .before .before .before) .pre .0 .level-max))
+    (λ c. omega (arith, start (c .before .before .before .before) .pre .0 .level-max))
     add-terms-requires-2
     (λ c. omega arith)
     loop-again
-    returns)
+    same-length
+    all)

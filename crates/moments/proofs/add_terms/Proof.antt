@@ -1,10 +1,10 @@
 -- The terms of one n are added cell by cell: after k turns the first k sums have theirs, and cell k is that of state i and moment r.
 use Prim.Native.Nat.{ℕ, _+_, _-_, _*_, _/_, _≤_, _<_}
 use native.Mathlib.Omega.{arith}
-use mathlib.Core.Path.{_≡_, sym, _∙_, ap, ap₂}
+use mathlib.Core.Path.{_≡_, refl, sym, _∙_, ap, ap₂}
 use mathlib.Core.Logic.{⊎-elim}
 use mathlib.Core.List.{List, []}
-use lib.ListN.{getD}
+use lib.ListN.{length, getD, length-set}
 use Rattle.definitions.specs.Sums.{over}
 use Rattle.definitions.specs.Vectors.{ONE}
 use Rattle.definitions.specs.Moment.{term}
@@ -17,21 +17,23 @@ use Rattle.moments.proofs.add_terms.Statement.{statement}
 use Rattle.moments.proofs.add_terms.Tie as tie
 
 abbrev Inv-loop : tie.InvT-loop
-Inv-loop w table sums₀ highest count i₀ r₀ k₀ sums i r k =
-    (k ≤ count) × (count ≤ 512) × (k ≡ i * highest + (r - 1)) × (1 ≤ r) × (r ≤ highest) × (sums ≡ over k (λ j. getD sums₀ j 0 + term w (inTable table highest j)) sums₀)
+Inv-loop w table cells₀ highest count i₀ r₀ k₀ cells i r k =
+    (k ≤ count) × (count ≤ 512) × (k ≡ i * highest + (r - 1)) × (1 ≤ r) × (r ≤ highest) × (cells ≡ over k (λ j. getD cells₀ j 0 + term w (inTable table highest j)) cells₀) × (length cells ≡ length cells₀)
 
 abbrev μ-loop : tie.MeasureT-loop
-μ-loop w table sums₀ highest count i₀ r₀ k₀ sums i r k = count - k
+μ-loop w table cells₀ highest count i₀ r₀ k₀ cells i r k = count - k
 
 small : (c : tie.Start Inv-loop μ-loop) → c .args .sizes .states * c .args .sizes .highest ≤ 512
 small c = count-max (c .args .sizes .states) (c .args .sizes .highest) (c .pre .states-max) (c .pre .highest-max)
 
 loop-holds : tie.Need-loop-holds Inv-loop μ-loop
-loop-holds c = (omega arith, small (c .before), omega arith, omega arith, c .before .pre .highest-pos, sym (over-none _ _))
+loop-holds c =
+    let start = c .before .before in
+    (omega arith, small start, omega arith, omega arith, start .pre .highest-pos, sym (over-none _ _), refl)
 
 module _ (c : tie.In-loop Inv-loop μ-loop) where
   abbrev start : tie.Start Inv-loop μ-loop
-  start = c .before .before .before
+  start = c .before .before .before .before
 
   abbrev R : ℕ
   R = start .args .sizes .highest
@@ -64,11 +66,11 @@ module _ (c : tie.After-over-trillion Inv-loop μ-loop) where
   is-term = c .over-trillion .ensures ∙ ap (λ (u : ℕ). start turn .args .w * u / ONE) (sym (entry turn))
 
   -- cell k still holds the sum that was handed over
-  standing : getD (turn .before .loop .sums) (turn .before .loop .k) 0 ≡ getD (start turn .args .sums .now) (turn .before .loop .k) 0
+  standing : getD (turn .before .loop .cells) (turn .before .loop .k) 0 ≡ getD (start turn .args .cells .now) (turn .before .loop .k) 0
   standing = ap (λ (l : List ℕ). getD l (turn .before .loop .k) 0) (turn .before .loop .inv .5) ∙ getD-over-past 0 (turn .before .loop .k) _ _ (turn .before .loop .k) (omega arith)
 
-add-sums : tie.Need-add-sums Inv-loop μ-loop
-add-sums c =
+add-cells : tie.Need-add-cells Inv-loop μ-loop
+add-cells c =
     let at = c .before in
     let k = turn at .before .loop .k in
     let given = start (turn at) .pre in
@@ -76,10 +78,10 @@ add-sums c =
 
 -- the next cell is that of the next moment, or of the first moment of the next state
 next-cell : (c : tie.Joined1 Inv-loop μ-loop) →
-    let R = c .before .before .before .before .before .before .before .args .sizes .highest in
+    let R = c .before .before .before .before .before .before .before .before .args .sizes .highest in
     (c .before .before .before .before .before .loop .k + 1 ≡ c .if1 .i * R + (c .if1 .r - 1)) × (1 ≤ c .if1 .r) × (c .if1 .r ≤ R)
 next-cell c =
-    let R = c .before .before .before .before .before .before .before .args .sizes .highest in
+    let R = c .before .before .before .before .before .before .before .before .args .sizes .highest in
     ⊎-elim (λ w. omega (arith, ap (λ (n : ℕ). n * R) (w .1))) (λ w. omega (arith, ap (λ (n : ℕ). n * R) (w .1))) (c .if1 .came)
 
 loop-again : tie.Need-loop-again Inv-loop μ-loop
@@ -92,12 +94,13 @@ loop-again c =
       next-cell c .0,
       next-cell c .1,
       next-cell c .2,
-      over-store k _ (begin .args .sums .now) _ _ (omega (arith, begin .pre .entries)) (turn at .before .loop .inv .5) (ap₂ _+_ (standing at) (is-term at)),
+      over-store k _ (begin .args .cells .now) _ _ (omega (arith, begin .pre .enough)) (turn at .before .loop .inv .5) (ap₂ _+_ (standing at) (is-term at)),
+      simp length-set (turn at .before .loop .inv .6),
     )
 
 returns : tie.Need-returns Inv-loop μ-loop
 returns c =
-    let sizes = c .before .before .before .args .sizes in
+    let sizes = c .before .before .before .before .args .sizes in
     let done : c .before .loop .k ≡ sizes .states * sizes .highest = omega arith in
     rw done at (c .before .loop .inv .5)
 
@@ -107,7 +110,7 @@ add-terms-spec =
     (tie.spec
     Inv-loop
     μ-loop
-    (λ c. omega (arith, small (c .before)))
+    (λ c. omega (arith, small (c .before .before)))
     loop-holds
     (λ c. omega (arith, in-table c))
     (λ c. omega (arith, in-table c))
@@ -116,11 +119,12 @@ add-terms-spec =
     over-trillion-requires
     (λ c. omega arith)
     (λ c. omega arith)
-    add-sums
+    add-cells
     (λ c. omega arith)
     (λ c. omega (arith, in-table (turn (c .before .before))))
     (λ c. omega arith)
     (λ c. omega arith)
     (λ c. omega arith)
     loop-again
+    (λ c. c .before .loop .inv .6)
     returns)

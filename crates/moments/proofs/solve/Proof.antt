@@ -8,20 +8,21 @@ use Rattle.moments.proofs.solve.Tie as tie
 
 accumulate-requires : tie.Need-accumulate-requires
 accumulate-requires c κs =
-    let cut = c .before .truncate .ensures in
-    rw (cut .is-level) (summable _ _ _ _ _ (c .before .before .before .before .before .pre .0) _ _ (cut .weights))
+    let start = c .before .before .before .before .before .before in
+    let cut = c .before .before .truncate .ensures in
+    (rw (cut .is-level) (summable _ _ _ _ _ (start .pre .0) _ _ (cut .weights)), start .pre .1)
 
-write-moments-requires : tie.Need-write-moments-requires
-write-moments-requires c κs =
-    let start = c .before .before .before .before .before .before .before .before .before in
-    let cut = c .before .before .before .before .before .truncate .ensures in
-    (divisible _ _ _ _ _ (start .pre .0) _ _ (cut .weights) _ _ _ (rw (cut .is-level) at (c .before .before .before .accumulate .ensures)) (cut .is-sum) (omega arith), omega (arith, start .pre .1))
+divide-sums-requires : tie.Need-divide-sums-requires
+divide-sums-requires c κs =
+    let start = c .before .before .before .before .before .before .before .before .before .before .before in
+    let cut = c .before .before .before .before .before .before .before .truncate .ensures in
+    divisible _ _ _ _ _ (start .pre .0) _ _ (cut .weights) (start .args .cells .now) (start .pre .1) _ _ _ (rw (cut .is-level) at (c .before .before .before .before .accumulate .ensures)) (cut .is-sum) (omega arith)
 
 returns : tie.Need-returns
 returns c =
-    let start = c .before .before .before .before .before .before .before .before .before .before .before .before in
-    let cut = c .before .before .before .before .before .before .before .before .truncate .ensures in
-    (cut .is-level, c .before .before .write-moments .ensures ∙ means-are _ _ _ _ _ (start .pre .0) _ _ (cut .weights) _ _ _ _ (rw (cut .is-level) at (c .before .before .before .before .before .before .accumulate .ensures)) (cut .is-sum) (omega arith))
+    let start = c .before .before .before .before .before .before .before .before .before .before .before .before .before .before in
+    let cut = c .before .before .before .before .before .before .before .before .before .before .truncate .ensures in
+    (cut .is-level, c .before .before .divide-sums .ensures ∙ means-are _ _ _ _ _ (start .pre .0) _ _ (cut .weights) (start .args .cells .now) (start .pre .1) _ _ _ (rw (cut .is-level) at (c .before .before .before .before .before .before .before .accumulate .ensures)) (cut .is-sum) (omega arith))
 
 pub solve-spec : {M : Type 1} → statement M
 solve-spec =
@@ -30,6 +31,6 @@ solve-spec =
     (λ c κs. search needs)
     accumulate-requires
     (λ c. search needs)
-    write-moments-requires
+    divide-sums-requires
     (λ c. search needs)
     returns)

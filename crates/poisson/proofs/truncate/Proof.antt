@@ -11,8 +11,7 @@ use Rattle.definitions.specs.Weights.{mode, weight, weightSum}
 use Rattle.definitions.specs.Level.{level}
 use Rattle.laws.specs.WeightLaws.{mode-low, weight-mode, weight-max, weightSum-max, weightSum-next}
 use Rattle.laws.specs.LevelLaws.{LEVELS, level-max, level-mode}
-use Rattle.laws.specs.ListLaws.{over-store}
-use Rattle.poisson.proofs.Filling.{over-again}
+use Rattle.laws.specs.ListLaws.{over-store, over-again}
 use Rattle.poisson.proofs.Search.{not-yet, this-one}
 use Rattle.poisson.proofs.truncate.Statement.{statement}
 use Rattle.poisson.proofs.truncate.Tie as tie
@@ -46,7 +45,7 @@ loop-holds c =
       omega (arith, level-mode x (start .args .tolerance) (omega arith) (omega arith)),
       omega (arith, weight-mode x, ap (weight x) is-mode),
       omega (arith, left .0, ap (weightSum x) is-mode),
-      rw is-mode (left .1 ∙ sym (over-again (weight x) (mode x + 1) (mode x + 1) (start .args .weights .now) w (omega arith) (omega (arith, room (c .before), mode-low x)) (left .1))),
+      rw is-mode (left .1 ∙ sym (over-again 0 (mode x + 1) (mode x + 1) (weight x) (weight x) (start .args .weights .now) w (omega arith) (omega (arith, room (c .before), mode-low x)) (left .1))),
     )
 
 passes-requires : tie.Need-passes-requires Inv-loop μ-loop
@@ -66,7 +65,7 @@ returns c =
       is-sum = omega (arith, ap (weightSum x) found);
       weights =
           loop .inv .4
-          ∙ over-again (weight x) (mode x + 1) (loop .n + 1) (start .args .weights .now) _ (omega arith) (omega (arith, last start, room (c .before .before .before .before))) (c .before .before .before .before .leftward .ensures .1)
+          ∙ over-again 0 (mode x + 1) (loop .n + 1) (weight x) (weight x) (start .args .weights .now) _ (omega arith) (omega (arith, last start, room (c .before .before .before .before))) (c .before .before .before .before .leftward .ensures .1)
           ∙ ap (λ (k : ℕ). over (k + 1) (weight x) (start .args .weights .now)) found;
     }
 

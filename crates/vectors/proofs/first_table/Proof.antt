@@ -8,19 +8,19 @@ use lib.ListN.{getD}
 use Rattle.definitions.specs.Sums.{over}
 use Rattle.definitions.specs.Chain.{Chain, padded, arrays}
 use Rattle.definitions.specs.Vectors.{rewardShare, vector}
-use Rattle.laws.specs.ArrayLaws.{zeros}
 use Rattle.vectors.specs.ReadyLaws.{no-chain}
 use Rattle.vectors.specs.StepLaws.{vector-ticks, vector-first}
-use Rattle.vectors.specs.TableLaws.{blank, blank-spare, row-filled, table-start, table-more, table-filled}
+use Rattle.vectors.specs.Table.{blank}
+use Rattle.vectors.specs.TableLaws.{blank-spare, row-filled, table-start, table-more, table-filled}
 use Rattle.vectors.proofs.first_table.Statement.{statement}
 use Rattle.vectors.proofs.first_table.Tie as tie
 
 abbrev Inv-loop : tie.InvT-loop
-Inv-loop sizes rewards highest table₀ r₀ r-end table r =
+Inv-loop sizes rewards table₀ highest r₀ r-end table r =
     (1 ≤ r) × (r ≤ highest + 1) × ((c : List ℕ) → table ≡ over r (vector (arrays sizes c rewards) 0) blank)
 
 abbrev μ-loop : tie.MeasureT-loop
-μ-loop sizes rewards highest table₀ r₀ r-end table r = highest + 1 - r
+μ-loop sizes rewards table₀ highest r₀ r-end table r = highest + 1 - r
 
 -- the rewards with any chain
 abbrev held : tie.Start Inv-loop μ-loop → List ℕ → Chain
@@ -34,8 +34,7 @@ row-before c c' =
     row-filled (held (c .before .before .before) c') 0 blank (turn .r) (turn .r - 1) (turn .table) (turn .inv .2 c') (omega arith)
 
 loop-holds : tie.Need-loop-holds Inv-loop μ-loop
-unfolding zeros
-loop-holds c = (omega arith, omega arith, λ c'. table-start (held (c .before) c') 0 (omega arith) (c .ones .ensures))
+loop-holds c = (omega arith, omega arith, λ c'. table-start (held (c .before) c') 0 _ (omega arith) (c .before .pre .2) (c .ones .ensures))
 
 shares-requires : tie.Need-shares-requires Inv-loop μ-loop
 shares-requires c κs =

@@ -1,10 +1,11 @@
 -- At n the table holds the vectors of n − 1.
-use mathlib.Core.Path.{_≡_}
+use mathlib.Core.Path.{_≡_, refl}
 use Prim.Native.Nat.{_+_, _-_, _≤_}
 use native.Mathlib.Omega.{arith}
 use borrow.Author.Needs.{needs}
 use Rattle.definitions.specs.Chain.{arrays}
-use Rattle.vectors.specs.Table.{tableOf}
+use Rattle.laws.specs.ArrayLaws.{zeros}
+use Rattle.vectors.specs.Table.{blank, tableOf}
 use Rattle.vectors_cases.proofs.tables.Statement.{statement}
 use Rattle.vectors_cases.proofs.tables.Tie as tie
 
@@ -14,6 +15,12 @@ Inv-loop sizes chain rewards last current₀ n₀ n-end current n =
 
 abbrev μ-loop : tie.MeasureT-loop
 μ-loop sizes chain rewards last current₀ n₀ n-end current n = last + 1 - n
+
+first-table-requires : tie.Need-first-table-requires Inv-loop μ-loop
+unfolding blank zeros
+first-table-requires c κs =
+    let start = c .before .before .before in
+    (start .pre .0 .rewards, start .pre .1, refl)
 
 loop-again : tie.Need-loop-again Inv-loop μ-loop
 loop-again c =
@@ -27,7 +34,7 @@ tables-spec =
     (tie.spec
     Inv-loop
     μ-loop
-    (λ c κs. (c .before .pre .0 .rewards, c .before .pre .1))
+    first-table-requires
     (λ c κs. search needs)
     (λ c. omega arith)
     (λ c. (omega arith, omega arith, c .before .before .first-table .ensures (c .before .before .before .before .args .chain .now)))
