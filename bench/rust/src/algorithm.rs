@@ -287,12 +287,34 @@ mod poisson {
     const BILLION: u64 = 1_000_000_000;
     pub const LEVELS: usize = 564;
 
-    fn leftward(x: u64, weights: &mut [u64; LEVELS]) -> u64 {
+    pub struct Truncation {
+        pub level: u64,
+        pub sum: u64,
+    }
+
+    pub fn truncate(x: u64, tolerance: u64, weights: &mut [u64; LEVELS]) -> Truncation {
+        let mut sum = leftward(x, weights);
+        let mut w = GREATEST;
+        let mut n = mode_of(x);
+        loop {
+            let next = n + 1;
+            if passes(w, sum, x, n, tolerance) {
+                return Truncation { level: n, sum };
+            }
+            w = step_right(w, x, n);
+            weights[next as usize] = w;
+            sum += w;
+            n = next;
+        }
+    }
+
+    fn leftward(x: u64, weights: &mut [u64]) -> u64 {
         let mut n = mode_of(x) as usize;
-        weights[n] = GREATEST;
+        let mut w = GREATEST;
         let mut sum = GREATEST;
+        weights[n] = GREATEST;
         while n > 0 {
-            let w = step_left(weights[n], x, n as u64);
+            w = step_left(w, x, n as u64);
             n -= 1;
             weights[n] = w;
             sum += w;
@@ -310,25 +332,6 @@ mod poisson {
 
     fn step_left(w: u64, x: u64, n: u64) -> u64 {
         muldiv::scaled(w, n * MILLION, x)
-    }
-
-    pub struct Truncation {
-        pub level: u64,
-        pub sum: u64,
-    }
-
-    pub fn truncate(x: u64, tolerance: u64, weights: &mut [u64; LEVELS]) -> Truncation {
-        let mut sum = leftward(x, weights);
-        let mut n = mode_of(x) as usize;
-        loop {
-            let next = n + 1;
-            if passes(weights[n], sum, x, n as u64, tolerance) {
-                return Truncation { level: n as u64, sum };
-            }
-            weights[next] = step_right(weights[n], x, n as u64);
-            sum += weights[next];
-            n = next;
-        }
     }
 
     fn passes(w: u64, sum: u64, x: u64, n: u64, tolerance: u64) -> bool {
@@ -398,16 +401,13 @@ mod vectors {
         next
     }
 
-    pub fn first_table(sizes: Sizes, rewards: &[u64; 64]) -> [[u64; 64]; 9] {
+    pub fn first_table(sizes: Sizes, rewards: &[u64; 64], table: &mut [[u64; 64]; 9]) {
         let highest = sizes.highest;
-        let zeros = [0u64; 64];
-        let mut table = [zeros; 9];
         table[0] = ones(sizes.states);
         for r in 1..highest + 1 {
             let same = table[r - 1];
             table[r] = shares(sizes, rewards, same);
         }
-        table
     }
 
     pub fn next_table(sizes: Sizes, chain: &[u32], rewards: &[u64; 64], n: u64, table: &mut [[u64; 64]; 9]) {
@@ -424,13 +424,21 @@ mod moments {
     use super::definitions::{Judgement, Outcome, Sizes, ONE};
     use super::{muldiv, poisson, reader, refusals, vectors};
 
-    fn add_terms(sizes: Sizes, w: u64, table: &[[u64; 64]; 9], sums: &mut [u64; 512]) {
+    const FEW: usize = 16;
+
+    fn clear(count: usize, cells: &mut [u64]) {
+        for k in 0..count {
+            cells[k] = 0;
+        }
+    }
+
+    fn add_terms(sizes: Sizes, w: u64, table: &[[u64; 64]; 9], cells: &mut [u64]) {
         let highest = sizes.highest;
         let count = sizes.states * highest;
         let mut i = 0;
         let mut r = 1;
         for k in 0..count {
-            sums[k] += muldiv::over_trillion(w, table[r][i]);
+            cells[k] += muldiv::over_trillion(w, table[r][i]);
             if r == highest {
                 r = 1;
                 i += 1;
@@ -446,15 +454,18 @@ mod moments {
         rewards: &[u64; 64],
         weights: &[u64; poisson::LEVELS],
         level: u64,
-        sums: &mut [u64; 512],
+        cells: &mut [u64],
     ) {
-        let mut table = vectors::first_table(sizes, rewards);
-        add_terms(sizes, weights[0], &table, sums);
+        let zeros = [0u64; 64];
+        let mut table = [zeros; 9];
+        vectors::first_table(sizes, rewards, &mut table);
+        clear(sizes.states * sizes.highest, cells);
+        add_terms(sizes, weights[0], &table, cells);
         let mut n: u64 = 0;
         while n < level {
             n += 1;
             vectors::next_table(sizes, chain, rewards, n, &mut table);
-            add_terms(sizes, weights[n as usize], &table, sums);
+            add_terms(sizes, weights[n as usize], &table, cells);
         }
     }
 
@@ -463,9 +474,9 @@ mod moments {
         (half_ticks + 1) / 2
     }
 
-    fn write_moments(sums: &[u64; 512], total: u64, count: usize, cells: &mut [u64]) {
+    fn divide_sums(total: u64, count: usize, cells: &mut [u64]) {
         for k in 0..count {
-            cells[k] = last_quotient(sums[k], total);
+            cells[k] = last_quotient(cells[k], total);
         }
     }
 
@@ -473,19 +484,9 @@ mod moments {
         let mut weights = [0u64; poisson::LEVELS];
         let cut = poisson::truncate(x, tolerance, &mut weights);
         let level = cut.level;
-        let mut sums = [0u64; 512];
-        accumulate(sizes, chain, rewards, &weights, level, &mut sums);
-        write_moments(&sums, cut.sum, sizes.states * sizes.highest, cells);
+        accumulate(sizes, chain, rewards, &weights, level, cells);
+        divide_sums(cut.sum, sizes.states * sizes.highest, cells);
         level
-    }
-
-    fn fill(file: &[u8], cells: &mut [u64]) -> u64 {
-        if reader::state_count(file) <= 16 {
-            let mut chain = [0u32; 256];
-            return fill_by(file, &mut chain, cells);
-        }
-        let mut chain = [0u32; 4096];
-        fill_by(file, &mut chain, cells)
     }
 
     fn fill_by(file: &[u8], chain: &mut [u32], cells: &mut [u64]) -> u64 {
@@ -496,6 +497,16 @@ mod moments {
         let x = reader::jump_millionths(sizes.rate, reader::time(file));
         let tolerance = reader::tolerance(file);
         solve(sizes, chain, &rewards, x, tolerance, cells)
+    }
+
+    fn fill(file: &[u8], cells: &mut [u64]) -> u64 {
+        let states = reader::state_count(file);
+        if states <= FEW {
+            let mut chain = [0u32; FEW * FEW];
+            return fill_by(file, &mut chain, cells);
+        }
+        let mut chain = [0u32; 4096];
+        fill_by(file, &mut chain, cells)
     }
 
     pub fn calculate(file: &[u8], cells: &mut [u64]) -> Outcome {

@@ -19,7 +19,7 @@ abbrev μ-loop : tie.MeasureT-loop
 first-table-requires : tie.Need-first-table-requires Inv-loop μ-loop
 unfolding blank zeros
 first-table-requires c κs =
-    let start = c .before .before .before in
+    let start = c .before .before in
     (start .pre .0 .rewards, start .pre .1, refl)
 
 loop-again : tie.Need-loop-again Inv-loop μ-loop
@@ -37,8 +37,8 @@ tables-spec =
     first-table-requires
     (λ c κs. search needs)
     (λ c. omega arith)
-    (λ c. (omega arith, omega arith, c .before .before .first-table .ensures (c .before .before .before .before .args .chain .now)))
-    (λ c κs. ((c .before .before .before .before .before .before .before .pre .0, omega arith, omega arith, omega arith), c .before .before .loop .inv .2))
+    (λ c. (omega arith, omega arith, c .before .before .first-table .ensures (c .before .before .before .before .before .args .chain .now)))
+    (λ c κs. ((c .before .before .before .before .before .before .before .before .pre .0, omega arith, omega arith, omega arith), c .before .before .loop .inv .2))
     (λ c κs. search needs)
     (λ c. omega arith)
     (λ c. omega arith)
