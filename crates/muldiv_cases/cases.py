@@ -5,8 +5,8 @@ Run from the root of the repository:
 
     python3 crates/muldiv_cases/cases.py && rt fmt
 
-Python's whole numbers have no width, so the quotient is one expression here. The number of
-cases also stands in proofs/main/Proof.antt, twice.
+Python's whole numbers have no width, so a quotient is one expression here. The number of cases also
+stands in proofs/quotients/Proof.antt, twice, and that of the terms in proofs/terms/Proof.antt.
 """
 
 import os
@@ -61,19 +61,47 @@ def cases():
     return rows
 
 
+def terms():
+    """w up to 10^15 and u up to 10^12, for w * u over 10^12."""
+    most_w, most_u, part = 10**15, 10**12, 10**6
+    rows = [
+        (0, 0), (0, most_u), (most_w, 0), (1, most_u), (most_w, 1), (most_w, most_u), (most_w - 1, most_u - 1), (1, most_u - 1),
+        # the parts: none below 10^6, none above it, one below the next
+        (part, part), (part - 1, part - 1), (part + 1, part - 1), (part - 1, part + 1), (part * part, part), (part, part * part - 1),
+        # file B
+        (166666666666666, 499999999999), (500000000000000, 333333333333),
+    ]
+    # where one of the three carries alone decides the last digit: of the lower parts, of each middle product
+    dice = random.Random(12)
+    wanted = {"carry": 4, "first": 4, "second": 4}
+    while any(wanted.values()):
+        w, u = dice.randrange(most_w + 1), dice.randrange(most_u + 1)
+        (w1, w0), (u1, u0) = divmod(w, part), divmod(u, part)
+        full = (w1 * u0 + w0 * u1 + w0 * u0 // part) // part
+        less = {"carry": (w1 * u0 + w0 * u1) // part, "first": (w0 * u1 + w0 * u0 // part) // part, "second": (w1 * u0 + w0 * u0 // part) // part}
+        kind = dice.choice(list(wanted))
+        if wanted[kind] and less[kind] != full:
+            wanted[kind] -= 1
+            rows.append((w, u))
+    return rows
+
+
 def table(name, numbers):
     return "pub const %s: [u64; %d] = [\n%s];\n" % (name, len(numbers), "".join("    %d,\n" % n for n in numbers))
 
 
 def main():
     here = os.path.dirname(os.path.abspath(__file__))
-    rows = cases()
+    rows, pairs = cases(), terms()
     with open(os.path.join(here, "src", "cases.rt"), "w") as out:
-        out.write("// Made by cases.py: case i is A[i], B[i], C[i].\n")
+        out.write("// Made by cases.py: case i of mul_div is A[i], B[i], C[i], and case i of over_trillion is W[i], U[i].\n")
         out.write("pub const COUNT: usize = %d;\n\n" % len(rows))
         out.write("\n".join(table(name, [row[k] for row in rows]) for k, name in enumerate("ABC")))
+        out.write("\npub const TERMS: usize = %d;\n\n" % len(pairs))
+        out.write("\n".join(table(name, [pair[k] for pair in pairs]) for k, name in enumerate("WU")))
     with open(os.path.join(here, "stdout"), "w") as out:
         out.writelines(expected(*row) + "\n" for row in rows)
+        out.writelines("%d\n" % (w * u // 10**12) for w, u in pairs)
 
 
 main()

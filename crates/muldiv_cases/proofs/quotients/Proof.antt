@@ -1,0 +1,31 @@
+-- `muldiv_cases::quotients` is safe and ends: the loop counts i up to the number of cases. Assumes nothing.
+use Prim.Native.Nat.{_≤_, _-_}
+use native.Mathlib.Omega.{arith}
+use borrow.Author.Needs.{needs}
+use Rattle.muldiv_cases.proofs.quotients.Statement.{statement}
+use Rattle.muldiv_cases.proofs.quotients.Tie as tie
+
+abbrev Inv-loop : tie.InvT-loop
+Inv-loop i₀ i = i ≤ 91
+
+abbrev μ-loop : tie.MeasureT-loop
+μ-loop i₀ i = 91 - i
+
+pub quotients-spec : {M : Type 1} → statement M
+quotients-spec =
+    tie.close
+    (tie.spec
+    Inv-loop
+    μ-loop
+    (λ c. omega arith)
+    (λ c. omega arith)
+    (λ c. omega arith)
+    (λ c. omega arith)
+    (λ c. omega arith)
+    (λ c. omega arith)
+    (λ c. omega arith)
+    (λ c κs. search needs)
+    (λ c. omega arith)
+    (λ c. omega arith)
+    (λ c. omega arith)
+    (λ c. search needs))
