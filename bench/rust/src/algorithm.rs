@@ -489,7 +489,7 @@ mod moments {
         level
     }
 
-    fn fill_by(file: &[u8], chain: &mut [u32], cells: &mut [u64]) -> u64 {
+    fn fill_with(file: &[u8], chain: &mut [u32], cells: &mut [u64]) -> u64 {
         let sums = reader::row_sums(file);
         let sizes = reader::sizes_of(file, &sums);
         reader::write_chain(file, &sums, sizes.rate, chain);
@@ -503,10 +503,10 @@ mod moments {
         let states = reader::state_count(file);
         if states <= FEW {
             let mut chain = [0u32; FEW * FEW];
-            return fill_by(file, &mut chain, cells);
+            return fill_with(file, &mut chain, cells);
         }
         let mut chain = [0u32; 4096];
-        fill_by(file, &mut chain, cells)
+        fill_with(file, &mut chain, cells)
     }
 
     pub fn calculate(file: &[u8], cells: &mut [u64]) -> Outcome {

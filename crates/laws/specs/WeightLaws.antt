@@ -6,7 +6,6 @@ use native.Mathlib.Numerals.{add-one}
 use native.Mathlib.Decide.{decLt, decLe}
 use mathlib.Core.Path.{_≡_, sym, _∙_, ap, ap₂}
 use borrow.Author.Tests.{lt-ltb, le-ltb}
-use Rattle.definitions.specs.Sums.{sum}
 use Rattle.definitions.specs.Weights.{GREATEST, MILLION, mode, rightward, leftward, weight, weightSum}
 use Rattle.laws.specs.Rounding.{quotient-low, quotient-high, quotient-at-most}
 use Rattle.laws.specs.SumLaws.{sum-mono, sum-constant, term-le-sum, sum-suc}

@@ -1,6 +1,5 @@
 -- The running sums A of all cells, and what the functions that make them need.
 use mathlib.Core.List.{List, []}
-use mathlib.Core.Path.{_≡_}
 use Prim.Native.Nat.{ℕ, _+_, _*_, _/_, _%_, _≤_, _<_, _^_}
 use lib.ListN.{length, getD}
 use Rattle.definitions.specs.declared.Sizes.{Sizes}

@@ -18,7 +18,6 @@ pub record Solvable (z : Sizes) (c f : List ℕ) (X ε : ℕ) : Type 0 where
   pub ready : Ready z c f
   pub highest-pos : 1 ≤ z .highest
   pub highest-max : z .highest ≤ 8
-  pub jumps-pos : 1 ≤ X
   pub jumps-max : X ≤ 256000000
   pub tolerance-pos : 1 ≤ ε
   pub tolerance-max : ε ≤ 100000000

@@ -109,7 +109,6 @@ module _ (m : Model) (g : WithinLimits m) (l : List ℕ) where
         ready = model-ready m l g room;
         highest-pos = g .highest-pos;
         highest-max = g .highest-max;
-        jumps-pos = g .jumps-pos;
         jumps-max = g .jumps-max;
         tolerance-pos = g .tolerance-pos;
         tolerance-max = g .tolerance-max;

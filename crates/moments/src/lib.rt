@@ -120,7 +120,7 @@ fn solve(
 
 // The level and the moments of an accepted file: what it states is read, its chain into the entries that
 // are lent.
-fn fill_by(file: &[u8], chain: &mut [u32], cells: &mut [u64]) -> u64
+fn fill_with(file: &[u8], chain: &mut [u32], cells: &mut [u64]) -> u64
     requires { ⌜ AcceptedFile (now file) (length (now cells)) × (stateCount (now file) * stateCount (now file) ≤ length (now chain)) ⌝ }
     ensures { λ n. ⌜ (n ≡ modelLevel (modelOf (now (file .entry)))) × (now (cells .exit) ≡ cellsAfter (accepted n) (now (file .entry)) (now (cells .entry))) ⌝ }
 {
@@ -141,10 +141,10 @@ fn fill(file: &[u8], cells: &mut [u64]) -> u64
     let states = reader::state_count(file);
     if states <= FEW {
         let mut chain = [0u32; FEW * FEW];
-        return fill_by(file, &mut chain, cells);
+        return fill_with(file, &mut chain, cells);
     }
     let mut chain = [0u32; 4096];
-    fill_by(file, &mut chain, cells)
+    fill_with(file, &mut chain, cells)
 }
 
 // The call: the first row of the table of refusals that holds, with no cell touched; or the level N,

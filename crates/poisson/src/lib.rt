@@ -34,7 +34,7 @@ pub struct Truncation {
 // its entries past N stay. Left of m all weights are needed; right of it, each is computed when the
 // search comes to it. No n below m passes, and 2m + 51 does: the search is from m to there at most.
 pub fn truncate(x: u64, tolerance: u64, weights: &mut [u64; LEVELS]) -> Truncation
-    requires { ⌜ (1 ≤ x) × (x ≤ 256000000) × (1 ≤ tolerance) × (tolerance ≤ 100000000) ⌝ }
+    requires { ⌜ (x ≤ 256000000) × (1 ≤ tolerance) × (tolerance ≤ 100000000) ⌝ }
     ensures { λ r. ⌜ Truncated x tolerance (r .level) (r .sum) (now (weights .entry)) (now (weights .exit)) ⌝ }
 {
     let mut sum = leftward(x, weights);

@@ -90,7 +90,7 @@ fn show_b() {
 
 // X, the tolerance, the level N, S(N), and the checksum of the array: w(0) to w(N), and 0 past N.
 fn show(x: u64, tolerance: u64) {
-    if x < 1 || x > 256_000_000 {
+    if x > 256_000_000 {
         return;
     }
     if tolerance < 1 || tolerance > 100_000_000 {

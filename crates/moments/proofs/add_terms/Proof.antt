@@ -10,7 +10,7 @@ use Rattle.definitions.specs.Vectors.{ONE}
 use Rattle.definitions.specs.Moment.{term}
 use Rattle.laws.specs.Rounding.{row-of-place}
 use Rattle.laws.specs.ListLaws.{over-none, over-store, getD-over-past}
-use Rattle.laws.specs.MomentLaws.{moment-of-cell, state-of-cell, count-max}
+use Rattle.laws.specs.MomentLaws.{state-of-cell, count-max}
 use Rattle.moments.specs.Running.{inTable}
 use Rattle.moments.specs.RunningLaws.{term-max, cell-in-table}
 use Rattle.moments.proofs.add_terms.Statement.{statement}

@@ -6,13 +6,13 @@ use Rattle.laws.specs.ChainLaws.{square-max}
 use Rattle.moments.proofs.fill.Statement.{statement}
 use Rattle.moments.proofs.fill.Tie as tie
 
-fill-by-requires : tie.Need-fill-by-requires
-fill-by-requires c κs =
+fill-with-requires : tie.Need-fill-with-requires
+fill-with-requires c κs =
     let start = c .before .before .before .before .before .before in
     (start .pre, square-max (stateCount (start .args .file .now)) 16 (omega arith))
 
-fill-by-requires-2 : tie.Need-fill-by-requires-2
-fill-by-requires-2 c κs =
+fill-with-requires-2 : tie.Need-fill-with-requires-2
+fill-with-requires-2 c κs =
     let start = c .before .before .before .before .before .before in
     (start .pre, square-max (stateCount (start .args .file .now)) 64 (start .pre .framed .states-max))
 
@@ -22,10 +22,10 @@ fill-spec =
     (tie.spec
     (λ c κs. search needs)
     (λ c. search needs)
-    fill-by-requires
+    fill-with-requires
     (λ c. search needs)
     (λ c. search needs)
     (λ c. search needs)
-    fill-by-requires-2
+    fill-with-requires-2
     (λ c. search needs)
     (λ c. search needs))

@@ -25,7 +25,7 @@ abbrev μ-loop : tie.MeasureT-loop
 
 -- the level is an index of the array
 last : (c : tie.Start Inv-loop μ-loop) → level (c .args .x) (c .args .tolerance) < LEVELS
-last c = level-max (c .args .x) (c .args .tolerance) (c .pre .1) (c .pre .2)
+last c = level-max (c .args .x) (c .args .tolerance) (c .pre .0) (c .pre .1)
 
 -- the array that is lent has an entry for each level
 room : (c : tie.After-leftward Inv-loop μ-loop) → length (c .before .before .args .weights .now) ≡ LEVELS

@@ -1,9 +1,9 @@
 -- `reader::write_chain` meets its contract: after i turns the first i rows are written. Assumes nothing.
-use Prim.Native.Nat.{ℕ, _*_, _-_, _≤_}
+use Prim.Native.Nat.{ℕ, _-_, _≤_}
 use mathlib.Core.List.{List}
 use mathlib.Core.Path.{_≡_, _∙_, ap}
 use native.Mathlib.Omega.{arith}
-use lib.ListN.{length, getD}
+use lib.ListN.{getD}
 use Rattle.definitions.specs.File.{stateCount}
 use Rattle.definitions.specs.Chain.{modelOf, rowSum}
 use Rattle.laws.specs.ChainLaws.{getD-padded, rowSum-le-rate}

@@ -8,8 +8,8 @@ use Rattle.definitions.specs.Moment.{cellsAfter}
 use Rattle.moments.specs.Solving.{ReadAs}
 use Rattle.moments.specs.SolvingLaws.{solvable-read, level-read, cells-read}
 use borrow.Author.Needs.{needs}
-use Rattle.moments.proofs.fill_by.Statement.{statement}
-use Rattle.moments.proofs.fill_by.Tie as tie
+use Rattle.moments.proofs.fill_with.Statement.{statement}
+use Rattle.moments.proofs.fill_with.Tie as tie
 
 -- E among the sizes that were read
 module _ (d : tie.After-sizes-of) where
@@ -62,8 +62,8 @@ returns c =
     let n = c .before .before .solve .ensures .0 ∙ level-read m (begin .pre .0 .limits) _ _ _ _ _ _ (read d) in
     (n, rw n (c .before .before .solve .ensures .1 ∙ cells-read m (begin .pre .0 .limits) _ _ _ _ _ _ (read d) _))
 
-pub fill-by-spec : {M : Type 1} → statement M
-fill-by-spec =
+pub fill-with-spec : {M : Type 1} → statement M
+fill-with-spec =
     tie.close
     (tie.spec
     (λ c κs. search needs)
