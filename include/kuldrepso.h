@@ -42,7 +42,8 @@ extern "C" {
  * Each slice is a pointer and a count of its elements, not of bytes. Neither pointer may be null, also where its
  * count is 0 (any suitably aligned address does then); the two must not overlap; file_length and 8 * cell_count are
  * at most PTRDIFF_MAX. That is all a caller owes: any bytes and any count of cells get an answer. Nothing is kept,
- * nothing is allocated, and calls on different cells may run at once. It takes less than 128 KB of stack. */
+ * nothing is allocated, and calls on different cells may run at once. Until an accepting call returns, its M * R
+ * cells may hold sums that are no moments yet. It takes less than 128 KB of stack. */
 uint64_t kuldrepso_calculate(const uint8_t *file, size_t file_length, uint64_t *cells, size_t cell_count);
 
 #ifdef __cplusplus

@@ -52,10 +52,11 @@ module _ (ch : Chain) (w : List ℕ) (R : ℕ) where
       ap (λ (x : ℕ). partSum ch w R x k) (add-one n) ∙ sum-suc n (λ j. term (getD w j 0) (U ch j (k % R + 1) (k / R)))
 
   -- no terms yet
-  pub sums-none : (l : List ℕ) → over (ch .states * R) (λ k. 0) l ≡ partSums ch w R 0 l
+  pub sums-none : (count : ℕ) (l : List ℕ) → count ≡ ch .states * R → over count (λ k. 0) l ≡ partSums ch w R 0 l
   unfolding partSums partSum
-  sums-none l =
-      over-same (ch .states * R) (λ k. 0) (partSum ch w R 0) l (λ k b. sym (sum-zero (λ j. term (getD w j 0) (U ch j (k % R + 1) (k / R)))))
+  sums-none count l all =
+      ap (λ (n : ℕ). over n (λ k. 0) l) all
+      ∙ over-same (ch .states * R) (λ k. 0) (partSum ch w R 0) l (λ k b. sym (sum-zero (λ j. term (getD w j 0) (U ch j (k % R + 1) (k / R)))))
 
   module _ (states-max : ch .states ≤ 64) (highest-pos : 1 ≤ R) (highest-max : R ≤ 8) where
     in-table : (n k : ℕ) → k < ch .states * R → inTable (tableOf ch R n) R k ≡ U ch n (k % R + 1) (k / R)

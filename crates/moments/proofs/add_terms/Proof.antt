@@ -54,7 +54,7 @@ module _ (c : tie.In-loop Inv-loop μ-loop) where
 
 over-trillion-requires : tie.Need-over-trillion-requires Inv-loop μ-loop
 over-trillion-requires c κs =
-    (start (c .before) .pre .weight-max, omega (arith, entry (c .before), start (c .before) .pre .ticks-max (c .before .before .loop .k) (c .before .loop-test .taken)))
+    (omega (arith, start (c .before) .pre .weight-max), omega (arith, entry (c .before), start (c .before) .pre .ticks-max (c .before .before .loop .k) (c .before .loop-test .taken)))
 
 module _ (c : tie.After-over-trillion Inv-loop μ-loop) where
   abbrev turn : tie.In-loop Inv-loop μ-loop
@@ -63,7 +63,7 @@ module _ (c : tie.After-over-trillion Inv-loop μ-loop) where
   -- what is added is the term of cell k
   is-term : c .over-trillion .result ≡ term (start turn .args .w) (inTable (start turn .args .table .now) (R turn) (turn .before .loop .k))
   unfolding term
-  is-term = c .over-trillion .ensures ∙ ap (λ (u : ℕ). start turn .args .w * u / ONE) (sym (entry turn))
+  is-term = omega (arith, c .over-trillion .ensures, ap (λ (u : ℕ). start turn .args .w * u / ONE) (entry turn))
 
   -- cell k still holds the sum that was handed over
   standing : getD (turn .before .loop .cells) (turn .before .loop .k) 0 ≡ getD (start turn .args .cells .now) (turn .before .loop .k) 0
