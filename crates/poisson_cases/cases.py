@@ -7,6 +7,7 @@ import sys
 MILLION = 10**6
 LAST = 563
 PRIME = 1_000_000_007
+FILLING = 7  # every entry of the array before the search
 
 CASES = [(x, e) for x in (1, 999_999, 1_000_000, 256_000_000) for e in (1, 10_000, 100_000_000)] + [
     (2, 100_000_000),
@@ -21,6 +22,8 @@ CASES = [(x, e) for x in (1, 999_999, 1_000_000, 256_000_000) for e in (1, 10_00
     (128_500_000, 3),
     (200_000_000, 50_000_000),
     (255_999_999, 1),
+    (0, 1),
+    (0, 100_000_000),
 ]
 
 
@@ -49,8 +52,8 @@ def level(X, w, tolerance):
 
 
 def array(w, N):
-    """What stands in an array of zeros after the search: w(0) to w(N), and 0 past N."""
-    return w[: N + 1] + [0] * (LAST - N)
+    """What stands in the array after the search: w(0) to w(N), and past N what stood there before."""
+    return w[: N + 1] + [FILLING] * (LAST - N)
 
 
 def checksum(w):

@@ -424,6 +424,7 @@ mod moments {
     use super::definitions::{Judgement, Outcome, Sizes, ONE};
     use super::{muldiv, poisson, reader, refusals, vectors};
 
+    const MOST: usize = 64;
     const FEW: usize = 16;
 
     fn clear(count: usize, cells: &mut [u64]) {
@@ -505,7 +506,7 @@ mod moments {
             let mut chain = [0u32; FEW * FEW];
             return fill_with(file, &mut chain, cells);
         }
-        let mut chain = [0u32; 4096];
+        let mut chain = [0u32; MOST * MOST];
         fill_with(file, &mut chain, cells)
     }
 

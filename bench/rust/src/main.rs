@@ -69,28 +69,30 @@ impl Case {
         let level = independent::calculate(&file, &mut cells).expect("an accepted file");
         let mut case = Case { name, file, level, cells, calls: [1; LINES.len()], times: Default::default() };
         for line in lines {
-            let least = (0..3).map(|_| case.call(*line)).fold(f64::INFINITY, f64::min);
+            let least = (0..3).map(|_| case.time(*line, 1)).fold(f64::INFINITY, f64::min);
             case.calls[*line] = (TURN_MICROSECONDS / least).clamp(1.0, 10_000.0) as u32;
         }
         case
     }
 
-    /// The microseconds of one call, whose answer and cells are compared.
-    fn call(&self, line: usize) -> f64 {
+    /// The microseconds a call, of some calls timed as one. The answer and the cells that they leave are compared.
+    fn time(&self, line: usize, calls: u32) -> f64 {
         let (name, calculation) = LINES[line];
         let mut cells = [0; CELLS];
+        let mut answer = Err(0);
         let start = Instant::now();
-        let answer = calculation(black_box(&self.file), black_box(&mut cells));
+        for _ in 0..calls {
+            answer = calculation(black_box(&self.file), black_box(&mut cells));
+        }
         let spent = start.elapsed().as_secs_f64();
         assert_eq!(answer, Ok(self.level), "{name}");
         assert_eq!(cells, self.cells, "{name}");
-        spent * 1e6
+        spent * 1e6 / f64::from(calls)
     }
 
     fn turn(&mut self, line: usize) {
-        let calls = self.calls[line];
-        let spent: f64 = (0..calls).map(|_| self.call(line)).sum();
-        self.times[line].push(spent / f64::from(calls));
+        let time = self.time(line, self.calls[line]);
+        self.times[line].push(time);
     }
 
     fn states(&self) -> u64 {
@@ -128,7 +130,7 @@ impl Case {
         let fastest = self.fastest_in_rust();
         let (name, states, highest, level) = (&self.name, self.states(), self.highest(), self.level);
         println!("{name}: {states} states, R = {highest}, level {level}, {} products", self.products());
-        println!("  line         median      least   greatest ns/product library to it it to fastest   middle half");
+        println!("  line         median      least   greatest ns/product  library/line  line/fastest   middle half");
         for (line, (label, _)) in LINES.iter().enumerate() {
             let Spread { median, least, greatest, .. } = self.times(line);
             let product = self.nanoseconds_a_product(line);
@@ -138,7 +140,7 @@ impl Case {
             println!("{:>13.2}  {:>5.2} to {:.2}", ratios.median, ratios.low, ratios.high);
         }
         let ratios = self.ratios(LIBRARY, fastest);
-        println!("  fastest in Rust: {}; library to it {:.2}\n", LINES[fastest].0, ratios.median);
+        println!("  fastest in Rust: {}; library/fastest {:.2}\n", LINES[fastest].0, ratios.median);
     }
 
     fn print_short(&self) {
@@ -188,12 +190,12 @@ fn main() {
     if lines.len() < LINES.len() {
         return;
     }
-    println!("{turns} turns; times in microseconds a call\n");
+    println!("{turns} turns; times in microseconds a call; a ratio is the median of the ratios turn by turn\n");
     for case in &cases {
         case.print();
     }
     println!("all files: the medians of the library and of the fastest in Rust");
-    println!("  file       states  R level     library ns/product     fastest ns/product   which   library to it");
+    println!("  file       states  R level     library ns/product     fastest ns/product   which library/fastest");
     for case in &cases {
         case.print_short();
     }

@@ -19,7 +19,7 @@ pub length-zeros : (n : ℕ) → length (zeros n) ≡ n
 unfolding zeros
 length-zeros n = length-replicate n 0
 
-pub zero-at : (n i : ℕ) → getD (zeros n) i 0 ≡ 0
+zero-at : (n i : ℕ) → getD (zeros n) i 0 ≡ 0
 unfolding zeros
 zero-at n i =
     elim (decLt i n) [
@@ -32,7 +32,7 @@ abbrev pub entryOf : List ℕ → ℕ → ℕ
 entryOf l i = getD l i 0
 
 -- filled up to n with nothing but 0 to follow, the whole array is filled
-pub over-zeros : (n size : ℕ) (f : ℕ → ℕ) → n ≤ size → ((k : ℕ) → n ≤ k → k < size → f k ≡ 0) → over n f (zeros size) ≡ firsts size f
+over-zeros : (n size : ℕ) (f : ℕ → ℕ) → n ≤ size → ((k : ℕ) → n ≤ k → k < size → f k ≡ 0) → over n f (zeros size) ≡ firsts size f
 over-zeros n size f l idle = over-whole 0 n size f (zeros size) l (length-zeros size) (λ k a b. idle k a b ∙ sym (zero-at size k))
 
 -- 64 zeros filled at the M states are the padded vector

@@ -17,8 +17,11 @@ use definitions::ONE;
 use definitions::Outcome;
 use definitions::Sizes;
 
-// At most this many states have their chain in an array of FEW × FEW entries: a small file does not pay
-// for the clearing of a large array.
+// The most states that a file has.
+const MOST: usize = 64;
+
+// At most this many states have their chain in a smaller array: a small file does not pay for the clearing
+// of a large one.
 const FEW: usize = 16;
 
 // No term yet: 0 in the first cells.
@@ -143,7 +146,7 @@ fn fill(file: &[u8], cells: &mut [u64]) -> u64
         let mut chain = [0u32; FEW * FEW];
         return fill_with(file, &mut chain, cells);
     }
-    let mut chain = [0u32; 4096];
+    let mut chain = [0u32; MOST * MOST];
     fill_with(file, &mut chain, cells)
 }
 

@@ -1,8 +1,9 @@
 // The quotient of a * b by c, rounded down, where a * b may pass 64 bits.
 //
-// Nothing here is wider than a u64. The product is never formed: a loop goes through the bits of b from
-// the highest down, doubles what it has at each, adds a where the bit is set, and takes c out. So that
-// its quotient stays at most b, a is first split into (a / c) * c + a % c, and only a % c goes that way.
+// Nothing here is wider than a u64, and the product is never formed. For any c, a loop goes through the bits of
+// b from the highest down, doubles what it has at each, adds a where the bit is set, and takes c out. So that
+// its quotient stays at most b, a is first split into (a / c) * c + a % c, and only a % c goes that way. For
+// c = 10^12 and limited factors, `over_trillion` takes the product in parts.
 ghost use mathlib.Core.Path.{_≡_};
 ghost use Prim.Native.Nat.{_+_, _*_, _/_, _%_, _^_, _<_, _≤_};
 ghost use Rattle.muldiv.specs.MulDiv.{quotientOf, fitted, Scalable, BitCount};
@@ -48,7 +49,7 @@ pub fn scaled(a: u64, b: u64, c: u64) -> u64
     }
 }
 
-// a * b / 10^12, by parts: quicker than a walk through the bits of b, for a caller who has many of them.
+// a * b / 10^12, in parts: quicker than the loop over the bits of b, for a caller who has many such quotients.
 // Both factors are cut at 10^6, a = a1 * 10^6 + a0 and b = b1 * 10^6 + b0, so that their product is
 //
 //     a1 * b1 * 10^12 + (a1 * b0 + a0 * b1) * 10^6 + a0 * b0

@@ -2,7 +2,7 @@
 use libc::STDOUT_FILENO;
 use poisson::LEVELS;
 
-const CASES: usize = 24;
+const CASES: usize = 26;
 
 // X, the expected jump count in millionths.
 const XS: [u64; CASES] = [
@@ -30,6 +30,8 @@ const XS: [u64; CASES] = [
     128_500_000,
     200_000_000,
     255_999_999,
+    0,
+    0,
 ];
 
 // The tolerance in billionths, for the X at the same place.
@@ -58,6 +60,8 @@ const TOLERANCES: [u64; CASES] = [
     3,
     50_000_000,
     1,
+    1,
+    100_000_000,
 ];
 
 // A prime, so that each entry counts in the checksum.
@@ -88,7 +92,7 @@ fn show_b() {
     last(cut.level);
 }
 
-// X, the tolerance, the level N, S(N), and the checksum of the array: w(0) to w(N), and 0 past N.
+// X, the tolerance, the level N, S(N), and the checksum of the array: w(0) to w(N), and 7 past N as before.
 fn show(x: u64, tolerance: u64) {
     if x > 256_000_000 {
         return;
@@ -96,7 +100,7 @@ fn show(x: u64, tolerance: u64) {
     if tolerance < 1 || tolerance > 100_000_000 {
         return;
     }
-    let mut w = [0u64; LEVELS];
+    let mut w = [7u64; LEVELS];
     let cut = poisson::truncate(x, tolerance, &mut w);
     let sum = checksum(&w);
     number(x);

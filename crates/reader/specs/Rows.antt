@@ -10,7 +10,7 @@ use Rattle.definitions.specs.Sums.{over, pick}
 use Rattle.definitions.specs.File.{stateCount, rowAt, place}
 use Rattle.definitions.specs.Bytes.{big}
 use Rattle.definitions.specs.Chain.{modelOf, rowSum, uniformRate, c, chainOf, flatEntry, flat}
-use Rattle.laws.specs.ListLaws.{length-over, over-none, over-store}
+use Rattle.laws.specs.ListLaws.{length-over, over-none, over-store, over-again}
 use Rattle.laws.specs.ChainLaws.{flat-entry}
 use Rattle.laws.specs.Acceptance.{Framed}
 use Rattle.reader.specs.Framed.{entry-in-row}
@@ -30,11 +30,13 @@ pub record WritesRow (s : List ℕ) (i diagonal : ℕ) (chain : List ℕ) : Type
   pub room : stateCount s * stateCount s ≤ length chain
   pub stays : diagonal ≡ uniformRate (modelOf s) - rowSum (modelOf s) i
   pub stays-max : diagonal < 2 ^ 32
+  pub earlier : chain ≡ chainRows s chain i
 
--- row i is written after the rows before it: in any list that c fits into
-abbrev pub RowWritten : List ℕ → ℕ → List ℕ → List ℕ → Type 0
-RowWritten s i before after =
-    (l : List ℕ) → stateCount s * stateCount s ≤ length l → before ≡ chainRows s l i → after ≡ chainRows s l (i + 1)
+-- over entries that hold rows of c already it does not matter what stood there before
+pub rows-again : (s l now : List ℕ) (i k : ℕ) → now ≡ chainRows s l i → i ≤ k → k ≤ stateCount s → stateCount s * stateCount s ≤ length l → chainRows s now k ≡ chainRows s l k
+unfolding filledTo
+rows-again s l now i k e low high room =
+    over-again 0 (i * stateCount s) (k * stateCount s) (flatEntry (chainOf (modelOf s))) (flatEntry (chainOf (modelOf s))) l now (mul-le-mul-right (stateCount s) low) (omega (arith, mul-le-mul-right (stateCount s) high)) e
 
 pub filled-none : (s l : List ℕ) → l ≡ chainRows s l 0
 unfolding filledTo

@@ -13,7 +13,7 @@ ghost use Rattle.definitions.specs.File.{lengthField, version, stateCount, high
 ghost use Rattle.definitions.specs.Chain.{modelOf, rowSum, uniformRate, maxReward, chainOf, padded, flat, sizesOf};
 ghost use Rattle.laws.specs.Acceptance.{Framed};
 ghost use Rattle.laws.specs.ArrayLaws.{entryOf};
-ghost use Rattle.reader.specs.Rows.{RowWritten, WritesRow};
+ghost use Rattle.reader.specs.Rows.{chainRows, WritesRow};
 use definitions::Sizes;
 
 // 1. Where the file's numbers stand. No offset is written anywhere else.
@@ -254,7 +254,7 @@ pub fn jump_millionths(rate: u64, time: u64) -> u64
 // Row i of c, written after the rows before it.
 fn write_row(file: &[u8], i: usize, diagonal: u64, chain: &mut [u32])
     requires { ⌜ WritesRow (now file) i diagonal (now chain) ⌝ }
-    ensures { λ r. ⌜ RowWritten (now (file .entry)) i (now (chain .entry)) (now (chain .exit)) ⌝ }
+    ensures { λ r. ⌜ now (chain .exit) ≡ chainRows (now (file .entry)) (now (chain .entry)) (i + 1) ⌝ }
 {
     let states = state_count(file);
     let row = row_of(file, i);

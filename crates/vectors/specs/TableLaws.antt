@@ -15,13 +15,13 @@ use Rattle.vectors.specs.Table.{blank, tableOf}
 use Rattle.vectors.specs.StepLaws.{getD-vector, vector-zero}
 
 -- 9 rows, with zeros past row R
-pub record Spare (R : ℕ) (l : List (List ℕ)) : Type 0 where
+pub record ZerosPast (R : ℕ) (l : List (List ℕ)) : Type 0 where
   pub rows : length l ≡ 9
   pub past : (r : ℕ) → R < r → r < 9 → getD l r [] ≡ zeros 64
 
-pub blank-spare : (R : ℕ) → Spare R blank
+pub blank-zeros : (R : ℕ) → ZerosPast R blank
 unfolding blank
-blank-spare R = record { rows = length-replicate 9 (zeros 64); past = λ r h l. getD-replicate 9 r (zeros 64) [] l }
+blank-zeros R = record { rows = length-replicate 9 (zeros 64); past = λ r h l. getD-replicate 9 r (zeros 64) [] l }
 
 module _ (ch : Chain) (R n : ℕ) (highest-max : R ≤ 8) where
   -- row r is U(n,r)
@@ -33,9 +33,9 @@ module _ (ch : Chain) (R n : ℕ) (highest-max : R ≤ 8) where
   pub table-entry : (r i : ℕ) → r ≤ R → ch .states ≤ 64 → i < ch .states → getD (getD (tableOf ch R n) r []) i 0 ≡ U ch n r i
   table-entry r i l h li = rw (table-row r l) (getD-vector ch h n r i li)
 
-  pub table-spare : Spare R (tableOf ch R n)
+  pub table-zeros : ZerosPast R (tableOf ch R n)
   unfolding tableOf
-  table-spare =
+  table-zeros =
       record {
         rows = length-firsts 9 (λ r. pick (leb r R) (vector ch n r) (zeros 64));
         past = λ r h l. getD-firsts [] 9 (λ r. pick (leb r R) (vector ch n r) (zeros 64)) r l ∙ rw (lt-leb r R h);
@@ -52,27 +52,27 @@ module _ (ch : Chain) (n : ℕ) (l : List (List ℕ)) where
   table-more r t rows h so e = over-store r (vector ch n) l t _ (omega arith) so e
 
   -- filled up to R it is the table of n
-  pub table-filled : (R k : ℕ) (t : List (List ℕ)) → Spare R l → R ≤ 8 → t ≡ over k (vector ch n) l → k ≡ R + 1 → t ≡ tableOf ch R n
+  pub table-filled : (R k : ℕ) (t : List (List ℕ)) → ZerosPast R l → R ≤ 8 → t ≡ over k (vector ch n) l → k ≡ R + 1 → t ≡ tableOf ch R n
   unfolding tableOf
-  table-filled R k t spare highest-max so all =
+  table-filled R k t zeros-past highest-max so all =
       so
       ∙ ap (λ (m : ℕ). over m (vector ch n) l) all
       ∙ over-same (R + 1) (vector ch n) row l (λ r b. rw (le-leb r R (omega arith)))
-      ∙ over-whole [] (R + 1) 9 row l (omega arith) (spare .rows) (λ r past b. rw (lt-leb r R (omega arith)) (sym (spare .past r (omega arith) b)))
+      ∙ over-whole [] (R + 1) 9 row l (omega arith) (zeros-past .rows) (λ r past b. rw (lt-leb r R (omega arith)) (sym (zeros-past .past r (omega arith) b)))
     where
       row : ℕ → List ℕ
       row r = pick (leb r R) (vector ch n r) (zeros 64)
 
 -- from zeros: U(n,0) is the first row
 pub table-start : (ch : Chain) (n : ℕ) (t : List (List ℕ)) → ch .states ≤ 64 → t ≡ blank → {v : List ℕ} → v ≡ padded (ch .states) (λ i. ONE) → set t 0 v ≡ over (0 + 1) (vector ch n) blank
-table-start ch n t h so e = table-more ch n blank 0 t (blank-spare 0 .rows) (omega arith) (so ∙ sym (over-none (vector ch n) blank)) (e ∙ vector-zero ch h n)
+table-start ch n t h so e = table-more ch n blank 0 t (blank-zeros 0 .rows) (omega arith) (so ∙ sym (over-none (vector ch n) blank)) (e ∙ vector-zero ch h n)
 
 -- over the table of another n, m: its first row is U(n,0) too, and the rows that are not filled yet are those of m
 module _ (ch : Chain) (R n m : ℕ) (highest-max : R ≤ 8) where
   pub rows-start : ch .states ≤ 64 → tableOf ch R m ≡ over 1 (vector ch n) (tableOf ch R m)
   rows-start h =
       sym (over-none (vector ch n) (tableOf ch R m))
-      ∙ over-further [] 0 1 (vector ch n) (tableOf ch R m) (omega arith) (omega (arith, table-spare ch R m highest-max .rows))
+      ∙ over-further [] 0 1 (vector ch n) (tableOf ch R m) (omega arith) (omega (arith, table-zeros ch R m highest-max .rows))
       (λ k low high. first k (omega arith))
     where
       first : (k : ℕ) → k ≡ 0 → vector ch n k ≡ getD (tableOf ch R m) k []

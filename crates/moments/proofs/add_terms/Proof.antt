@@ -52,10 +52,6 @@ module _ (c : tie.In-loop Inv-loop μ-loop) where
       let turn = c .before .loop in
       cell-in-table (start .args .table .now) (turn .i) (turn .r) R (turn .k) (turn .inv .2) (turn .inv .3) (turn .inv .4)
 
-over-trillion-requires : tie.Need-over-trillion-requires Inv-loop μ-loop
-over-trillion-requires c κs =
-    (omega (arith, start (c .before) .pre .weight-max), omega (arith, entry (c .before), start (c .before) .pre .ticks-max (c .before .before .loop .k) (c .before .loop-test .taken)))
-
 module _ (c : tie.After-over-trillion Inv-loop μ-loop) where
   abbrev turn : tie.In-loop Inv-loop μ-loop
   turn = c .before .before
@@ -68,6 +64,10 @@ module _ (c : tie.After-over-trillion Inv-loop μ-loop) where
   -- cell k still holds the sum that was handed over
   standing : getD (turn .before .loop .cells) (turn .before .loop .k) 0 ≡ getD (start turn .args .cells .now) (turn .before .loop .k) 0
   standing = ap (λ (l : List ℕ). getD l (turn .before .loop .k) 0) (turn .before .loop .inv .5) ∙ getD-over-past 0 (turn .before .loop .k) _ _ (turn .before .loop .k) (omega arith)
+
+over-trillion-requires : tie.Need-over-trillion-requires Inv-loop μ-loop
+over-trillion-requires c κs =
+    (omega (arith, start (c .before) .pre .weight-max), omega (arith, entry (c .before), start (c .before) .pre .ticks-max (c .before .before .loop .k) (c .before .loop-test .taken)))
 
 add-cells : tie.Need-add-cells Inv-loop μ-loop
 add-cells c =

@@ -2,7 +2,7 @@
 use Prim.Native.Nat.{ℕ, _*_, _/_, _%_, _^_, _≤_}
 use native.Mathlib.Nat.{mul-le-mul}
 use native.Mathlib.Omega.{arith}
-use Rattle.laws.specs.Rounding.{quotient-in-parts}
+use Rattle.laws.specs.Rounding.{quotient-at-most, remainder-below, quotient-in-parts}
 use Rattle.muldiv.proofs.over_trillion.Statement.{statement}
 use Rattle.muldiv.proofs.over_trillion.Tie as tie
 
@@ -11,10 +11,10 @@ MILLION = 1000000
 
 -- an upper part, of a number up to a million times most, and a lower part
 upper-max : (n most : ℕ) → n ≤ most * MILLION → n / MILLION ≤ most
-upper-max n most h = omega arith
+upper-max n most h = quotient-at-most n most MILLION h
 
 lower-max : (n : ℕ) → n % MILLION ≤ MILLION
-lower-max n = omega arith
+lower-max n = omega (arith, remainder-below n MILLION (omega arith))
 
 -- the four products of the parts
 module _ (c : tie.Start) where

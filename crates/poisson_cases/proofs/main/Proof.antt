@@ -6,10 +6,10 @@ use Rattle.poisson_cases.proofs.main.Statement.{statement}
 use Rattle.poisson_cases.proofs.main.Tie as tie
 
 abbrev Inv-loop : tie.InvT-loop
-Inv-loop i₀ i = i ≤ 24
+Inv-loop i₀ i = i ≤ 26
 
 abbrev μ-loop : tie.MeasureT-loop
-μ-loop i₀ i = 24 - i
+μ-loop i₀ i = 26 - i
 
 pub main-spec : {M : Type 1} → statement M
 main-spec =

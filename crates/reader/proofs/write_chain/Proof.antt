@@ -1,13 +1,13 @@
 -- `reader::write_chain` meets its contract: after i turns the first i rows are written. Assumes nothing.
 use Prim.Native.Nat.{ℕ, _-_, _≤_}
 use mathlib.Core.List.{List}
-use mathlib.Core.Path.{_≡_, _∙_, ap}
+use mathlib.Core.Path.{_≡_, sym, _∙_, ap}
 use native.Mathlib.Omega.{arith}
 use lib.ListN.{getD}
 use Rattle.definitions.specs.File.{stateCount}
 use Rattle.definitions.specs.Chain.{modelOf, rowSum}
 use Rattle.laws.specs.ChainLaws.{getD-padded, rowSum-le-rate}
-use Rattle.reader.specs.Rows.{chainRows, filled-none, length-rows, rows-done}
+use Rattle.reader.specs.Rows.{chainRows, filled-none, length-rows, rows-again, rows-done}
 use Rattle.reader.proofs.write_chain.Statement.{statement}
 use Rattle.reader.proofs.write_chain.Tie as tie
 
@@ -43,12 +43,13 @@ write-row-requires c κs =
       room = omega (arith, length-rows _ _ _ _ (turn .before .loop .inv .1) (omega arith) (start turn .pre .0 .1));
       stays = omega (arith, sum-at turn);
       stays-max = omega arith;
+      earlier = turn .before .loop .inv .1 ∙ sym (rows-again _ _ _ _ _ (turn .before .loop .inv .1) (omega arith) (omega arith) (start turn .pre .0 .1));
     }
 
 loop-again : tie.Need-loop-again Inv-loop μ-loop
 loop-again c =
     let before = c .before .before .before .before .before .before in
-    (omega arith, c .before .before .write-row .ensures _ (start (c .before .before .before .before .before) .pre .0 .1) (before .loop .inv .1))
+    (omega arith, c .before .before .write-row .ensures ∙ rows-again _ _ _ _ _ (before .loop .inv .1) (omega arith) (omega arith) (start (c .before .before .before .before .before) .pre .0 .1))
 
 same-length : tie.Need-same-length Inv-loop μ-loop
 same-length c = length-rows _ _ _ _ (c .before .loop .inv .1) (omega arith) (c .before .before .before .before .before .pre .0 .1)

@@ -1,6 +1,5 @@
 -- `reader::write_row` meets its contract: after j turns the row's first j entries are written. Assumes nothing.
 use Prim.Native.Nat.{ℕ, _+_, _*_, _-_, _≤_, _<_}
-use mathlib.Core.List.{List}
 use mathlib.Core.Path.{_≡_, refl, sym, _∙_, ap, ap₂}
 use native.Mathlib.Omega.{arith}
 use lib.ListN.{length, length-set}
@@ -9,13 +8,13 @@ use Rattle.definitions.specs.Chain.{modelOf, chainOf, flatEntry}
 use Rattle.laws.specs.Rounding.{place-below}
 use Rattle.laws.specs.ChainLaws.{square-max}
 use Rattle.reader.specs.Framed.{row-room, entry-room}
-use Rattle.reader.specs.Rows.{filledTo, chainRows, entry-is, filled-more, row-done}
+use Rattle.reader.specs.Rows.{filledTo, entry-is, filled-more, row-done}
 use Rattle.reader.proofs.write_row.Statement.{statement}
 use Rattle.reader.proofs.write_row.Tie as tie
 
 abbrev Inv-loop : tie.InvT-loop
 Inv-loop file i diagonal chain₀ states row j₀ chain j =
-    (j ≤ states) × (length chain ≡ length chain₀) × ((l : List ℕ) → stateCount file * stateCount file ≤ length l → chain₀ ≡ chainRows file l i → chain ≡ filledTo file l (i * states + j))
+    (j ≤ states) × (length chain ≡ length chain₀) × (chain ≡ filledTo file chain₀ (i * states + j))
 
 abbrev μ-loop : tie.MeasureT-loop
 μ-loop file i diagonal chain₀ states row j₀ chain j = states - j
@@ -29,7 +28,7 @@ loop-holds : tie.Need-loop-holds Inv-loop μ-loop
 loop-holds c = (
   omega arith,
   refl,
-  λ l room e. e ∙ ap (filledTo (c .before .before .before .before .args .file .now) l) (omega (arith, ap (λ (n : ℕ). c .before .before .before .before .args .i * n) (c .before .state-count .ensures))),
+  c .before .before .before .before .pre .earlier ∙ ap (filledTo (c .before .before .before .before .args .file .now) _) (omega (arith, ap (λ (n : ℕ). c .before .before .before .before .args .i * n) (c .before .state-count .ensures))),
 )
 
 entry-in-requires : tie.Need-entry-in-requires Inv-loop μ-loop
@@ -73,19 +72,19 @@ loop-again c =
     let next : place c + 1 ≡ start c .args .i * M c + (turn .j + 1) = omega arith in (
       omega arith,
       simp length-set (turn .inv .1),
-      λ l room e. rw (turn .inv .2 l room e) (rw next at (filled-more file l (place c) (c .entry-in .result) (omega (arith, place-max c, square c)) (entry c))),
+      rw (turn .inv .2) (rw next at (filled-more file (start c .args .chain .now) (place c) (c .entry-in .result) (omega (arith, place-max c, square c, start c .pre .room)) (entry c))),
     )
 
 returns : tie.Need-returns Inv-loop μ-loop
-returns c = λ l room e.
+returns c =
     let turn = c .before .loop in
     let begin = c .before .before .before .before .before .before in
     let file = begin .args .file .now in
     let read = c .before .before .before .state-count .ensures in
     let all : turn .j ≡ stateCount file = omega arith in
-    turn .inv .2 l room e
-    ∙ ap₂ (λ (n j : ℕ). filledTo file l (begin .args .i * n + j)) read all
-    ∙ row-done file l (begin .args .i)
+    turn .inv .2
+    ∙ ap₂ (λ (n j : ℕ). filledTo file (begin .args .chain .now) (begin .args .i * n + j)) read all
+    ∙ row-done file (begin .args .chain .now) (begin .args .i)
 
 pub write-row-spec : {M : Type 1} → statement M
 write-row-spec =

@@ -11,7 +11,7 @@ use Rattle.definitions.specs.Vectors.{rewardShare, vector}
 use Rattle.vectors.specs.ReadyLaws.{no-chain}
 use Rattle.vectors.specs.StepLaws.{vector-ticks, vector-first}
 use Rattle.vectors.specs.Table.{blank}
-use Rattle.vectors.specs.TableLaws.{blank-spare, row-filled, table-start, table-more, table-filled}
+use Rattle.vectors.specs.TableLaws.{blank-zeros, row-filled, table-start, table-more, table-filled}
 use Rattle.vectors.proofs.first_table.Statement.{statement}
 use Rattle.vectors.proofs.first_table.Tie as tie
 
@@ -49,7 +49,7 @@ loop-again c =
       omega arith,
       λ c'.
           let ch = held start c' in
-          table-more ch 0 blank (turn .r) (turn .table) (blank-spare 0 .rows) (omega arith) (turn .inv .2 c')
+          table-more ch 0 blank (turn .r) (turn .table) (blank-zeros 0 .rows) (omega arith) (turn .inv .2 c')
           (c .shares .ensures c'
           ∙ ap (λ (v : List ℕ). padded (ch .states) (λ i. rewardShare ch (getD v i 0) i)) (row-before (c .before .before) c')
           ∙ vector-first ch (omega arith) (turn .r) (omega arith)),
@@ -59,7 +59,7 @@ returns : tie.Need-returns Inv-loop μ-loop
 returns c = λ c'.
     let start = c .before .before .before in
     let turn = c .before .loop in
-    table-filled (held start c') 0 blank (start .args .sizes .highest) (turn .r) (turn .table) (blank-spare (start .args .sizes .highest)) (omega arith) (turn .inv .2 c') (omega arith)
+    table-filled (held start c') 0 blank (start .args .sizes .highest) (turn .r) (turn .table) (blank-zeros (start .args .sizes .highest)) (omega arith) (turn .inv .2 c') (omega arith)
 
 pub first-table-spec : {M : Type 1} → statement M
 first-table-spec =

@@ -12,7 +12,7 @@ use Rattle.definitions.specs.Vectors.{nextEntry, vector}
 use Rattle.laws.specs.ArrayLaws.{entryOf}
 use Rattle.vectors.specs.StepLaws.{vector-ticks, vector-next}
 use Rattle.vectors.specs.Table.{tableOf}
-use Rattle.vectors.specs.TableLaws.{table-spare, row-filled, row-to-come, rows-start, table-more, table-filled}
+use Rattle.vectors.specs.TableLaws.{table-zeros, row-filled, row-to-come, rows-start, table-more, table-filled}
 use Rattle.vectors.proofs.next_table.Statement.{statement}
 use Rattle.vectors.proofs.next_table.Tie as tie
 
@@ -71,7 +71,7 @@ loop-again c =
     let n = start turn .args .n in (
       omega arith,
       omega arith,
-      table-more ch n (old turn) (r turn) (turn .before .loop .table) (table-spare ch (start turn .args .sizes .highest) (n - 1) (omega arith) .rows) (omega arith) (turn .before .loop .inv .2)
+      table-more ch n (old turn) (r turn) (turn .before .loop .table) (table-zeros ch (start turn .args .sizes .highest) (n - 1) (omega arith) .rows) (omega arith) (turn .before .loop .inv .2)
           (c .step .ensures
           ∙ ap₂ (λ (a b : List ℕ). padded (ch .states) (nextEntry ch n (r turn) (entryOf a) (entryOf b))) (row-before turn) (row-same turn)
           ∙ vector-next ch (omega arith) n (r turn) (omega arith) (omega arith)),
@@ -82,7 +82,7 @@ returns c =
     let begin = c .before .before .before in
     let R = begin .args .sizes .highest in
     let n = begin .args .n in
-    table-filled (held begin) n _ R (c .before .loop .r) (c .before .loop .table) (table-spare (held begin) R (n - 1) (omega arith)) (omega arith) (c .before .loop .inv .2) (omega arith)
+    table-filled (held begin) n _ R (c .before .loop .r) (c .before .loop .table) (table-zeros (held begin) R (n - 1) (omega arith)) (omega arith) (c .before .loop .inv .2) (omega arith)
 
 pub next-table-spec : {M : Type 1} → statement M
 next-table-spec =

@@ -37,8 +37,8 @@ module _ (c : tie.In-loop Inv-loop μ-loop) where
   place-max : start .args .i * start .args .sizes .states + c .before .loop .j < start .args .sizes .states * start .args .sizes .states
   place-max = place-below (start .args .i) (c .before .loop .j) (start .args .sizes .states) (start .args .sizes .states) (omega arith) (omega arith)
 
-  count-max : start .args .sizes .states * start .args .sizes .states ≤ 64 * 64
-  count-max = square-max (start .args .sizes .states) 64 (omega arith)
+  entries-max : start .args .sizes .states * start .args .sizes .states ≤ 64 * 64
+  entries-max = square-max (start .args .sizes .states) 64 (omega arith)
 
 -- with one product more the total is still a part of the row's sum
 module _ (c : tie.After-wide Inv-loop μ-loop) where
@@ -53,8 +53,8 @@ module _ (c : tie.After-wide Inv-loop μ-loop) where
 
 loop-again : tie.Need-loop-again Inv-loop μ-loop
 loop-again c =
-    let product = c .before in
-    (omega (arith, added product, sum-more (product .before .before .before .loop .j) (row (begin product))), omega arith)
+    let widened = c .before in
+    (omega (arith, added widened, sum-more (widened .before .before .before .loop .j) (row (begin widened))), omega arith)
 
 returns : tie.Need-returns Inv-loop μ-loop
 unfolding rowMean
@@ -70,9 +70,9 @@ row-mean-spec =
     Inv-loop
     μ-loop
     loop-holds
-    (λ c. omega (arith, place-max c, count-max c))
-    (λ c. omega (arith, place-max c, count-max c))
-    (λ c. omega (arith, place-max c, count-max c))
+    (λ c. omega (arith, place-max c, entries-max c))
+    (λ c. omega (arith, place-max c, entries-max c))
+    (λ c. omega (arith, place-max c, entries-max c))
     (λ c. omega (arith, place-max (c .before)))
     (λ c κs. tt)
     (λ c. omega arith)
