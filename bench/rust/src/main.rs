@@ -47,7 +47,7 @@ const LIBRARY: usize = 0;
 /// Cells for every file.
 const CELLS: usize = 512;
 
-/// A turn of a line takes at least about this long: as many calls as that needs are timed, and averaged.
+/// A turn of a line takes at least about this long: as many calls as that needs are timed as one.
 const TURN_MICROSECONDS: f64 = 1_000.0;
 
 /// A model file, what every line has to answer, and the microseconds a call of each line, turn by turn.
