@@ -424,8 +424,7 @@ mod moments {
     use super::definitions::{Judgement, Outcome, Sizes, ONE};
     use super::{muldiv, poisson, reader, refusals, vectors};
 
-    const MOST: usize = 64;
-    const FEW: usize = 16;
+    const FEW_STATES: usize = 16;
 
     fn clear(count: usize, cells: &mut [u64]) {
         for k in 0..count {
@@ -502,11 +501,11 @@ mod moments {
 
     fn fill(file: &[u8], cells: &mut [u64]) -> u64 {
         let states = reader::state_count(file);
-        if states <= FEW {
-            let mut chain = [0u32; FEW * FEW];
+        if states <= FEW_STATES {
+            let mut chain = [0u32; FEW_STATES * FEW_STATES];
             return fill_with(file, &mut chain, cells);
         }
-        let mut chain = [0u32; MOST * MOST];
+        let mut chain = [0u32; 64 * 64];
         fill_with(file, &mut chain, cells)
     }
 

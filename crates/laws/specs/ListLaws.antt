@@ -5,8 +5,8 @@ use native.Mathlib.Numerals.{add-one}
 use native.Mathlib.Decide.{ℕ-discrete, decLt}
 use mathlib.Core.Path.{_≡_, refl, sym, _∙_, ap, ap₂}
 use mathlib.Core.List.{List, [], _∷_, _++_, append-assoc, append-nil}
-use lib.ListN.{length, getD, drop, set, length-append, length-drop, List·getD-append, drop-of-length-le}
-use lib.Seq.{drop-cons, set-at, getD-at, getD-append-add, getD-drop, ext-getD}
+use lib.ListN.{length, getD, drop, set, length-append, length-drop, length-set, List·getD-append, drop-of-length-le}
+use lib.Seq.{drop-cons, set-at, getD-at, getD-append-add, getD-drop, drop-set-lt, getD-set-same, ext-getD}
 use Rattle.definitions.specs.Sums.{firsts, over}
 
 module _ {A : Type 0} where
@@ -62,6 +62,13 @@ module _ {A : Type 0} where
     where
       more : set (firsts n f ++ drop n l) n (f n) ≡ firsts (n + 1) f ++ drop (n + 1) l
       more = unfold firsts in rw (add-one, drop-cons l n (f n) h) (set-at (firsts n f) (getD l n (f n)) (drop (suc n) l) (f n) n (length-firsts n f) ∙ sym (append-assoc (firsts n f) (f n ∷ []) (drop (suc n) l)))
+
+  -- a store of entry n, with the n before it still to be filled: one turn of a loop that fills a list from the back
+  pub store-over : (d : A) (n : ℕ) (f : ℕ → A) (l : List A) (v : A) → n < length l → v ≡ f n → over n f (set l n v) ≡ over (n + 1) f l
+  unfolding over firsts
+  store-over d n f l v h e =
+      rw (add-one, drop-cons (set l n v) n d (omega (arith, length-set l n v)), getD-set-same l n v d h, drop-set-lt (suc n) l n v (omega arith), e)
+      (sym (append-assoc (firsts n f) (f n ∷ []) _))
 
   -- where f agrees with the list from n to m − 1, filled up to n it is filled up to m
   pub over-further : (d : A) (n m : ℕ) (f : ℕ → A) (l : List A) → n ≤ m → m ≤ length l → ((k : ℕ) → n ≤ k → k < m → f k ≡ getD l k d) → over n f l ≡ over m f l

@@ -6,6 +6,7 @@ use native.Mathlib.Numerals.{add-one}
 use native.Mathlib.Decide.{decLt, decLe}
 use mathlib.Core.Path.{_≡_, sym, _∙_, ap, ap₂}
 use borrow.Author.Tests.{lt-ltb, le-ltb}
+use Rattle.definitions.specs.Sums.{sum}
 use Rattle.definitions.specs.Weights.{GREATEST, MILLION, mode, rightward, leftward, weight, weightSum}
 use Rattle.laws.specs.Rounding.{quotient-low, quotient-high, quotient-at-most}
 use Rattle.laws.specs.SumLaws.{sum-mono, sum-constant, term-le-sum, sum-suc}
@@ -121,6 +122,11 @@ module _ (X : ℕ) where
   pub weightSum-next : (n : ℕ) → weightSum X (n + 1) ≡ weightSum X n + weight X (n + 1)
   unfolding weightSum
   weightSum-next n = rw add-one (sum-suc (suc n) (weight X))
+
+  -- S(m) is w(m) and the weights below m
+  pub weightSum-mode : GREATEST + sum (mode X) (weight X) ≡ weightSum X (mode X)
+  unfolding weightSum
+  weightSum-mode = omega (arith, sum-suc (mode X) (weight X), weight-mode)
 
   -- from 2m + 1 on each weight is at most half of the one before
   pub halves : (n : ℕ) → 2 * mode X + 1 ≤ n → weight X (n + 1) * 2 ≤ weight X n

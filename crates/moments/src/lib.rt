@@ -17,12 +17,9 @@ use definitions::ONE;
 use definitions::Outcome;
 use definitions::Sizes;
 
-// The most states that a file has.
-const MOST: usize = 64;
-
 // At most this many states have their chain in a smaller array: a small file does not pay for the clearing
 // of a large one.
-const FEW: usize = 16;
+const FEW_STATES: usize = 16;
 
 // No term yet: 0 in the first cells.
 fn clear(count: usize, cells: &mut [u64])
@@ -142,11 +139,11 @@ fn fill(file: &[u8], cells: &mut [u64]) -> u64
     ensures { λ n. ⌜ (n ≡ modelLevel (modelOf (now (file .entry)))) × (now (cells .exit) ≡ cellsAfter (accepted n) (now (file .entry)) (now (cells .entry))) ⌝ }
 {
     let states = reader::state_count(file);
-    if states <= FEW {
-        let mut chain = [0u32; FEW * FEW];
+    if states <= FEW_STATES {
+        let mut chain = [0u32; FEW_STATES * FEW_STATES];
         return fill_with(file, &mut chain, cells);
     }
-    let mut chain = [0u32; MOST * MOST];
+    let mut chain = [0u32; 64 * 64];
     fill_with(file, &mut chain, cells)
 }
 

@@ -8,10 +8,9 @@ use borrow.Author.Needs.{needs}
 use lib.ListN.{length, length-set}
 use Rattle.definitions.specs.Sums.{sum as sumOf, over}
 use Rattle.definitions.specs.Weights.{GREATEST, mode, weight, weightSum}
-use Rattle.laws.specs.SumLaws.{sum-zero}
-use Rattle.laws.specs.WeightLaws.{mode-low, weight-mode, weightSum-max}
-use Rattle.laws.specs.ListLaws.{over-none}
-use Rattle.poisson.proofs.Filling.{sum-first, sum-last, store-last}
+use Rattle.laws.specs.SumLaws.{sum-zero, sum-more}
+use Rattle.laws.specs.WeightLaws.{mode-low, weight-mode, weightSum-max, weightSum-mode}
+use Rattle.laws.specs.ListLaws.{over-none, store-over}
 use Rattle.poisson.proofs.leftward.Statement.{statement}
 use Rattle.poisson.proofs.leftward.Tie as tie
 
@@ -32,7 +31,7 @@ loop-holds c =
       omega (arith, length-set (args .weights .now) m GREATEST),
       refl,
       omega (arith, weight-mode x, ap (weight x) is-mode),
-      omega (arith, sum-first x, ap (λ (k : ℕ). sumOf k (weight x)) is-mode),
+      omega (arith, weightSum-mode x, ap (λ (k : ℕ). sumOf k (weight x)) is-mode),
       refl,
     )
 
@@ -41,7 +40,8 @@ more : (c : tie.After-step-left Inv-loop μ-loop) → let x = c .before .before 
 more c =
     let x = c .before .before .before .before .before .args .x in
     let n = c .before .before .loop .n in
-    omega (arith, sum-last (weight x) (n - 1) n (omega arith))
+    let back : n - 1 + 1 ≡ n = omega arith in
+    omega (arith, rw back at (sum-more (n - 1) (weight x)))
 
 add-sum : tie.Need-add-sum Inv-loop μ-loop
 add-sum c =
@@ -53,13 +53,14 @@ loop-again c =
     let x = c .before .before .before .before .before .args .x in
     let loop = c .before .before .loop in
     let n = loop .n in
+    let back : n - 1 + 1 ≡ n = omega arith in
     let w = c .step-left .result in (
       omega arith,
       omega (arith, length-set (loop .weights) (n - 1) w),
       omega (arith, length-set (loop .weights) (n - 1) w),
       c .step-left .ensures,
       more c,
-      store-last (weight x) (n - 1) n (omega arith) (loop .weights) w (omega arith) (c .step-left .ensures) ∙ loop .inv .5,
+      rw back at (store-over 0 (n - 1) (weight x) (loop .weights) w (omega arith) (c .step-left .ensures)) ∙ loop .inv .5,
     )
 
 returns : tie.Need-returns Inv-loop μ-loop
@@ -68,12 +69,14 @@ returns c =
     let x = args .x in
     let loop = c .before .loop in
     let m = c .before .before .mode-of .result in
+    let is-mode = c .before .before .mode-of .ensures in
     let end : 0 ≡ loop .n = omega arith in (
       omega (arith, sum-zero (weight x), ap (λ (k : ℕ). sumOf k (weight x)) end),
       sym (over-none (weight x) (loop .weights))
           ∙ ap (λ (k : ℕ). over k (weight x) (loop .weights)) end
           ∙ loop .inv .5
-          ∙ store-last (weight x) m (mode x + 1) (omega arith) (args .weights .now) GREATEST (omega arith) (omega (arith, weight-mode x, ap (weight x) (c .before .before .mode-of .ensures))),
+          ∙ store-over 0 m (weight x) (args .weights .now) GREATEST (omega arith) (omega (arith, weight-mode x, ap (weight x) is-mode))
+          ∙ ap (λ (k : ℕ). over (k + 1) (weight x) (args .weights .now)) is-mode,
     )
 
 pub leftward-spec : {M : Type 1} → statement M
