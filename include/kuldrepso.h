@@ -16,13 +16,16 @@ extern "C" {
  * that was written before stays right. MAJOR rises, and MINOR starts again at 0, where such a program has to be looked
  * through: a call takes other parameters or answers something else, or a macro has another value. */
 #define KULDREPSO_VERSION_MAJOR 2
-#define KULDREPSO_VERSION_MINOR 0
+#define KULDREPSO_VERSION_MINOR 1
 
 /* An answer below this is an acceptance; any other is this and the number of a refusal. */
 #define KULDREPSO_REFUSED UINT64_C(1000000)
 
 /* Cells that are enough for every file: 64 states, 8 moments each. */
 #define KULDREPSO_MOST_CELLS 512
+
+/* Times that a list may have: 1 to this many. */
+#define KULDREPSO_MOST_TIMES 8
 
 /* Bytes of the longest file that can be accepted: 64 states. A longer one is refused. */
 #define KULDREPSO_MOST_BYTES 16397
@@ -45,6 +48,27 @@ extern "C" {
  * nothing is allocated, and calls on different cells may run at once. Until an accepting call returns, its M * R
  * cells may hold sums that are no moments yet. It takes less than 128 KB of stack. */
 uint64_t kuldrepso_calculate(const uint8_t *file, size_t file_length, uint64_t *cells, size_t cell_count);
+
+/* Judges the model file together with a list of times, in whole hours, and calculates its moments for each of them
+ * (document 02, S-3). The file's own time is judged, at row 8, and not used.
+ *
+ * Answers
+ *   time_count              where no row of the table below holds. For time k, counted from 0: levels[k] holds its level,
+ *                           and the block cells[k * M * R] .. cells[(k + 1) * M * R - 1] its moments, in the order
+ *                           of kuldrepso_calculate. Both are what kuldrepso_calculate gives for the file with times[k]
+ *                           in the place of its time, bytes 9 to 12. Every level from time_count on and every cell from
+ *                           time_count * M * R on is as it was.
+ *   KULDREPSO_REFUSED + k   where row k is the first that holds. Every level and every cell is as it was.
+ *
+ * The table, in its order: rows 1 to 11 of document 01, where 8 holds also for a list whose first time is 0; 14, the list
+ * has no time or more than KULDREPSO_MOST_TIMES; 15, a time is not above the one before it; 12, judged on the last time;
+ * 13, level_count is below time_count, or cell_count below time_count * M * R.
+ *
+ * A caller owes what is owed to kuldrepso_calculate, here for four slices: no pointer may be null, also where its count
+ * is 0; neither levels nor cells may overlap any other slice; no slice is longer than PTRDIFF_MAX bytes. Until an accepting
+ * call returns, its levels and cells may hold other numbers. It takes less than 128 KB of stack. */
+uint64_t kuldrepso_series(const uint8_t *file, size_t file_length, const uint32_t *times, size_t time_count,
+                          uint64_t *levels, size_t level_count, uint64_t *cells, size_t cell_count);
 
 #ifdef __cplusplus
 }
