@@ -28,6 +28,18 @@ modelOf s =
       transition = rateField s;
     }
 
+-- the model m with the time T in the place of its own
+abbrev pub atTime : Model → ℕ → Model
+atTime m T =
+    record {
+      states = m .states;
+      highest = m .highest;
+      tolerance = m .tolerance;
+      time = T;
+      reward = m .reward;
+      transition = m .transition;
+    }
+
 -- the rate from i to another state j, and 0 at j = i, which the file does not hold
 unfoldable pub jumpRate : Model → ℕ → ℕ → ℕ
 jumpRate m i j = pick (eqb j i) 0 (m .transition i j)

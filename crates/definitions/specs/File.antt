@@ -2,9 +2,10 @@
 use Prim.Native.Nat.{ℕ, _+_, _*_, _-_}
 use mathlib.Core.List.{List}
 use lib.ListN.{getD}
+use lib.Seq.{sets}
 use lib.Dec.{ltb}
 use Rattle.definitions.specs.Sums.{pick}
-use Rattle.definitions.specs.Bytes.{big}
+use Rattle.definitions.specs.Bytes.{big, bytesOf}
 
 -- bytes 0 to 1: length
 abbrev pub lengthField : List ℕ → ℕ
@@ -29,6 +30,10 @@ toleranceField s = big 4 s 5
 -- bytes 9 to 12: time T in whole hours
 abbrev pub timeField : List ℕ → ℕ
 timeField s = big 4 s 9
+
+-- the file s with the time T in the place of its own
+unfoldable pub withTime : List ℕ → ℕ → List ℕ
+withTime s T = sets s 9 (bytesOf 4 T)
 
 -- where the reward rates start
 abbrev pub rewardsAt : ℕ

@@ -1,9 +1,9 @@
 -- "What stops a file": the table's rows in its order, in parts that the tables of several calls share, and what a table answers.
-use Prim.Native.Nat.{ℕ, _+_, _*_, _-_}
+use Prim.Native.Nat.{ℕ, zero, suc, _+_, _*_, _-_}
 use mathlib.Core.List.{List, [], _∷_, _++_}
-use mathlib.Core.Bool.{Bool, not, _||_}
-use lib.ListN.{length}
-use lib.Dec.{ltb, eqb}
+use mathlib.Core.Bool.{Bool, false, not, _||_}
+use lib.ListN.{length, getD}
+use lib.Dec.{ltb, leb, eqb}
 use Rattle.definitions.specs.declared.Judgement.{Judgement}
 use Rattle.definitions.specs.declared.Judgement.the-variants as judged
 use Rattle.definitions.specs.Sums.{anyAbove, pick}
@@ -30,15 +30,36 @@ framing s =
     ∷ (6, not (eqb (lengthField s) (4 * stateCount s * stateCount s + 11)))
     ∷ []
 
--- rows 7 to 11, the quantities: tolerance, time, rewards and rates
-unfoldable pub quantities : List ℕ → Rows
-quantities s =
+-- whether a list of times starts with 0. One without a time does not.
+abbrev pub startsAtZero : List ℕ → Bool
+startsAtZero [] = false
+startsAtZero (first ∷ later) = eqb first 0
+
+-- rows 7 to 11, the quantities: tolerance, time, rewards and rates, of the file s lent with a list of times (without one: an empty list)
+unfoldable pub quantities : List ℕ → List ℕ → Rows
+quantities s times =
     (7, eqb (toleranceField s) 0 || ltb 100000000 (toleranceField s))
-    ∷ (8, eqb (timeField s) 0)
+    ∷ (8, eqb (timeField s) 0 || startsAtZero times)
     ∷ (9, anyAbove 1000000 (stateCount s) (rewardField s))
     ∷ (10, not (anyAbove 0 (stateCount s) (rewardField s)))
     ∷ (11, anyAbove 10000000 (stateCount s) (rowSum (modelOf s)))
     ∷ []
+
+-- whether one of the times 1 to n, counted from 0, is not above the one before it
+unfoldable pub fallsUpTo : ℕ → List ℕ → Bool
+fallsUpTo zero times = false
+fallsUpTo (suc n) times = fallsUpTo n times || leb (getD times (suc n) 0) (getD times n 0)
+
+-- rows 14 and 15, the list of times: how many there are, and that each is above the one before it
+unfoldable pub listing : List ℕ → Rows
+listing times =
+    (14, eqb (length times) 0 || ltb 8 (length times))
+    ∷ (15, fallsUpTo (length times - 1) times)
+    ∷ []
+
+-- the last time of a list
+abbrev pub lastTime : List ℕ → ℕ
+lastTime times = getD times (length times - 1) 0
 
 -- row 12, the jumps: E × T, for a time T
 abbrev pub tooManyJumps : ℕ → ℕ → Bool
@@ -51,13 +72,28 @@ jumps E T = (12, tooManyJumps E T) ∷ []
 unfoldable pub room : ℕ → ℕ → Rows
 room needed lent = (13, ltb lent needed) ∷ []
 
+-- the cells of one block: one for each state and each moment
+abbrev pub blockSize : List ℕ → ℕ
+blockSize s = stateCount s * highestMoment s
+
 -- the table of a call that takes the file s, lent with a number of answer cells, and fills its moments
 unfoldable pub rows : List ℕ → ℕ → Rows
 rows s cells =
     framing s
-    ++ quantities s
+    ++ quantities s []
     ++ jumps (uniformRate (modelOf s)) (timeField s)
-    ++ room (stateCount s * highestMoment s) cells
+    ++ room (blockSize s) cells
+
+-- the table of a call that takes the file s and a list of times, lent with a number of level cells and of block cells, and fills a level
+-- and a block of moments for each time (S-3). Row 13 stands for the blocks, and for the levels.
+unfoldable pub seriesRows : List ℕ → List ℕ → ℕ → ℕ → Rows
+seriesRows s times levels cells =
+    framing s
+    ++ quantities s times
+    ++ listing times
+    ++ jumps (uniformRate (modelOf s)) (lastTime times)
+    ++ room (length times * blockSize s) cells
+    ++ room (length times) levels
 
 -- the first row that holds, as its number; where none does, accepted with a
 unfoldable pub firstHeld : {A : Type 0} → Rows → A → Answer A
@@ -71,6 +107,10 @@ judgedBy table = firstHeld table tt
 -- what the table says of the file s lent with a number of answer cells
 unfoldable pub judgement : List ℕ → ℕ → Answer (Unit {0})
 judgement s cells = judgedBy (rows s cells)
+
+-- what the series' table says of the file s and the list of times, lent with a number of level cells and of block cells
+unfoldable pub seriesJudgement : List ℕ → List ℕ → ℕ → ℕ → Answer (Unit {0})
+seriesJudgement s times levels cells = judgedBy (seriesRows s times levels cells)
 
 -- document 01's answer for each case of a judgement
 abbrev pub verdict : Judgement → Answer (Unit {0})

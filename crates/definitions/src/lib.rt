@@ -1,5 +1,5 @@
 // The answers and the sizes that the calculator's functions share. Document 01's answer for each case of an enum is defined in specs/:
-// of a Judgement in Rules.antt, of an Outcome in Moment.antt. The chain that stands in arrays of given Sizes is defined in Chain.antt.
+// of a Judgement in Rules.antt, of an Outcome in Moment.antt, of a Series in Series.antt. The chain that stands in arrays of given Sizes is defined in Chain.antt.
 
 // ONE: 10^12 ticks.
 pub const ONE: u64 = 1_000_000_000_000;
@@ -13,6 +13,13 @@ pub enum Judgement {
 // What a call that takes a file and fills its moments answers: the truncation level N, or the number of the refusal.
 pub enum Outcome {
     Level(u64),
+    Refused(u8),
+}
+
+// What a call that takes a file and a list of times answers: accepted, with a level and a block of moments filled for each
+// time, or the number of the refusal.
+pub enum Series {
+    Accepted,
     Refused(u8),
 }
 

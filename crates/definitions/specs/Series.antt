@@ -1,0 +1,49 @@
+-- Document 02, S-3, "One model, several times": the levels and the blocks of moments of a file for a list of times, and demand 3 of them.
+use Prim.Native.Nat.{ℕ, _*_, _/_, _%_, _<_}
+use mathlib.Core.List.{List}
+use lib.ListN.{length, getD, take, drop}
+use Rattle.definitions.specs.declared.Series.{Series}
+use Rattle.definitions.specs.declared.Series.the-variants as series
+use Rattle.definitions.specs.Sums.{over}
+use Rattle.definitions.specs.File.{withTime}
+use Rattle.definitions.specs.Chain.{Model, modelOf, atTime}
+use Rattle.definitions.specs.Rules.{Answer, accepted, refused, blockSize}
+use Rattle.definitions.specs.Moment.{cell, modelLevel}
+use Rattle.definitions.specs.Promise.{Promise}
+
+-- the model of the file s at time k of a list, counted from 0
+abbrev pub modelAt : List ℕ → List ℕ → ℕ → Model
+modelAt s times k = atTime (modelOf s) (getD times k 0)
+
+-- its level
+unfoldable pub levelAt : List ℕ → List ℕ → ℕ → ℕ
+levelAt s times k = modelLevel (modelAt s times k)
+
+-- what stands in cell p of all blocks, which follow each other: p is a cell of block p / (M × R), and there cell p % (M × R)
+unfoldable pub blockCell : List ℕ → List ℕ → ℕ → ℕ
+blockCell s times p = cell (modelAt s times (p / blockSize s)) (levelAt s times (p / blockSize s)) (p % blockSize s)
+
+-- document 02's answer for each case of the enum
+abbrev pub seriesAnswer : Series → Answer (Unit {0})
+seriesAnswer series.Accepted = accepted tt
+seriesAnswer (series.Refused k) = refused k
+
+-- document 02's values for each answer: all level cells after the call, from those before it
+unfoldable pub levelsAfter : Answer (Unit {0}) → List ℕ → List ℕ → List ℕ → List ℕ
+levelsAfter (accepted tt) s times levels = over (length times) (levelAt s times) levels
+levelsAfter (refused k) s times levels = levels
+
+-- and all block cells
+unfoldable pub blocksAfter : Answer (Unit {0}) → List ℕ → List ℕ → List ℕ → List ℕ
+blocksAfter (accepted tt) s times cells = over (length times * blockSize s) (blockCell s times) cells
+blocksAfter (refused k) s times cells = cells
+
+-- block k of the cells
+abbrev pub block : List ℕ → List ℕ → ℕ → List ℕ
+block s cells k = take (blockSize s) (drop (k * blockSize s) cells)
+
+-- demand 3 of an answer: for every time, the file with that time, its level and its block
+abbrev pub SeriesPromised : Answer (Unit {0}) → List ℕ → List ℕ → List ℕ → List ℕ → Type 0
+SeriesPromised (accepted tt) s times levels cells =
+    (k : ℕ) → k < length times → Promise (withTime s (getD times k 0)) (getD levels k 0) (block s cells k)
+SeriesPromised (refused k) s times levels cells = Unit {0}
