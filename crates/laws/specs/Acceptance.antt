@@ -1,20 +1,21 @@
 -- What acceptance tells of a file.
 use Prim.Native.Nat.{ℕ, _+_, _*_, _-_, _≤_, _<_}
 use native.Mathlib.Omega.{arith}
-use native.Mathlib.Nat.{mul-pos}
-use mathlib.Core.Path.{_≡_, refl, sym, _∙_}
+use native.Mathlib.Nat.{mul-pos, mul-le-mul-left}
+use mathlib.Core.Path.{_≡_, refl, sym, _∙_, ap}
 use mathlib.Core.Bool.{Bool, true, false, not, _||_}
-use mathlib.Core.List.{List, _++_, append-assoc}
-use lib.ListN.{length}
-use lib.Dec.{ltb, eqb}
+use mathlib.Core.List.{List, [], _∷_, _++_, append-assoc}
+use lib.ListN.{length, getD}
+use lib.Dec.{ltb, leb, eqb}
 use borrow.Author.Tests.{ltb-true, ltb-false, eqb-true, eqb-false, not-false}
 use Rattle.definitions.specs.Sums.{largest, anyAbove}
 use Rattle.definitions.specs.File.{lengthField, stateCount, highestMoment, toleranceField, timeField, rewardField}
-use Rattle.definitions.specs.Chain.{Model, modelOf, rowSum, uniformRate, maxReward, jumpMillionths, chainOf}
-use Rattle.definitions.specs.Rules.{accepted, Rows, framing, quantities, jumps, room, rows, firstHeld, judgedBy, judgement}
+use Rattle.definitions.specs.Chain.{Model, modelOf, atTime, rowSum, uniformRate, maxReward, jumpMillionths, chainOf}
+use Rattle.definitions.specs.Rules.{accepted, Rows, framing, startsAtZero, quantities, fallsUpTo, listing, lastTime, jumps, room, blockSize, rows, seriesRows, firstHeld, judgedBy, judgement, seriesJudgement}
+use Rattle.definitions.specs.Series.{modelAt}
 use Rattle.laws.specs.SumLaws.{any-largest}
 use Rattle.laws.specs.RuleLaws.{andThen, in-parts, NoneHold, none-hold, accepted-value, none-in-parts}
-use Rattle.laws.specs.ChainLaws.{rate-pos, row-sums-to-rate, reward-le-largest}
+use Rattle.laws.specs.ChainLaws.{rate-at, rate-pos, row-sums-to-rate, reward-le-largest}
 use Rattle.laws.specs.VectorLaws.{Stochastic}
 
 -- neither of two tests holds
@@ -88,15 +89,14 @@ pub moments-by : (s : List ℕ) → NoneHold (framing s) → (1 ≤ highestMomen
 unfolding framing
 moments-by s row = in-range (highestMoment s) 8 (row .1 .1 .1 .1 .0)
 
--- the rows 7 to 12
-pub limits-by : (s : List ℕ) → NoneHold (framing s) → NoneHold (quantities s) → NoneHold (jumps (uniformRate (modelOf s)) (timeField s)) → WithinLimits (modelOf s)
-unfolding quantities jumps maxReward uniformRate jumpMillionths
-limits-by s first row row12 =
+-- the rows 7 to 12, with a time T that is not 0 and not too late
+pub limits-by : (s times : List ℕ) (T : ℕ) → NoneHold (framing s) → NoneHold (quantities s times) → 1 ≤ T → uniformRate (modelOf s) * T ≤ 256000000 → WithinLimits (atTime (modelOf s) T)
+unfolding quantities maxReward jumpMillionths
+limits-by s times T first row low high =
     let f = framed-by s first in
     let highest = moments-by s first in
     let row9 = row .1 .1 in
     let tolerance = in-range (toleranceField s) 100000000 (row .0) in
-    let time : timeField s ≡ 0 → ⊥ = eqb-false (timeField s) 0 (row .1 .0) in
     let sums : largest (stateCount s) (rowSum (modelOf s)) ≤ 10000000 = none-above 10000000 (stateCount s) (rowSum (modelOf s)) (row9 .1 .1 .0) in
     record {
       states-max = f .states-max;
@@ -106,11 +106,19 @@ limits-by s first row row12 =
       tolerance-max = tolerance .1;
       rewards-max = none-above 1000000 (stateCount s) (rewardField s) (row9 .0);
       rewards-pos = some-above 0 (stateCount s) (rewardField s) (row9 .1 .0);
-      rate-min = rate-pos (modelOf s);
-      rate-max = omega (arith, sums);
-      jumps-pos = mul-pos (rate-pos (modelOf s)) (omega (arith, time));
-      jumps-max = ltb-false 256000000 (uniformRate (modelOf s) * timeField s) (row12 .0);
+      rate-min = rate-pos (atTime (modelOf s) T);
+      rate-max = rw (rate-at (modelOf s) T) (unfold uniformRate in omega (arith, sums));
+      jumps-pos = mul-pos (rate-pos (atTime (modelOf s) T)) low;
+      jumps-max = rw (rate-at (modelOf s) T) high;
     }
+
+-- row 8: the file's time is not 0, and neither is the first of a list
+pub times-by : (s times : List ℕ) → NoneHold (quantities s times) → (1 ≤ timeField s) × (startsAtZero times ≡ false)
+unfolding quantities
+times-by s times row =
+    let both = neither (eqb (timeField s) 0) (startsAtZero times) (row .1 .0) in
+    let nonzero : timeField s ≡ 0 → ⊥ = eqb-false (timeField s) 0 (both .0) in
+    (omega (arith, nonzero), both .1)
 
 -- the rows 1 to 11, which every call that reads a file shares: what their acceptance with E tells
 pub record Rateable (s : List ℕ) (E : ℕ) : Type 0 where
@@ -119,11 +127,11 @@ pub record Rateable (s : List ℕ) (E : ℕ) : Type 0 where
   pub rate : E ≡ uniformRate (modelOf s)
   pub rate-max : E ≤ 10000000
 
-pub rateable : (s : List ℕ) (E : ℕ) → firstHeld (framing s ++ quantities s) (uniformRate (modelOf s)) ≡ accepted E → Rateable s E
+pub rateable : (s times : List ℕ) (E : ℕ) → firstHeld (framing s ++ quantities s times) (uniformRate (modelOf s)) ≡ accepted E → Rateable s E
 unfolding quantities uniformRate
-rateable s E h =
-    let none = none-in-parts (framing s) (quantities s) (none-hold (framing s ++ quantities s) (uniformRate (modelOf s)) E h) in
-    let rate : uniformRate (modelOf s) ≡ E = accepted-value (framing s ++ quantities s) (uniformRate (modelOf s)) E h in
+rateable s times E h =
+    let none = none-in-parts (framing s) (quantities s times) (none-hold (framing s ++ quantities s times) (uniformRate (modelOf s)) E h) in
+    let rate : uniformRate (modelOf s) ≡ E = accepted-value (framing s ++ quantities s times) (uniformRate (modelOf s)) E h in
     record {
       framed = framed-by s (none .0);
       highest-max = moments-by s (none .0) .1;
@@ -132,22 +140,34 @@ rateable s E h =
     }
 
 -- the whole table: those rows, then the jumps and the room
-pub judgement-in-parts : (s : List ℕ) (cells : ℕ) → judgement s cells ≡ andThen (firstHeld (framing s ++ quantities s) (uniformRate (modelOf s))) (judgedBy (jumps (uniformRate (modelOf s)) (timeField s) ++ room (stateCount s * highestMoment s) cells))
+pub judgement-in-parts : (s : List ℕ) (cells : ℕ) → judgement s cells ≡ andThen (firstHeld (framing s ++ quantities s []) (uniformRate (modelOf s))) (judgedBy (jumps (uniformRate (modelOf s)) (timeField s) ++ room (blockSize s) cells))
 unfolding judgement rows
-judgement-in-parts s cells = rw append-assoc (in-parts (framing s ++ quantities s) _ (uniformRate (modelOf s)) tt)
+judgement-in-parts s cells = rw append-assoc (in-parts (framing s ++ quantities s []) _ (uniformRate (modelOf s)) tt)
+
+-- the table of a series: those rows, then the list, the jumps and the room
+pub series-in-parts : (s times : List ℕ) (levels cells : ℕ) →
+    seriesJudgement s times levels cells
+    ≡ andThen (firstHeld (framing s ++ quantities s times) (uniformRate (modelOf s)))
+    (judgedBy (listing times ++ (jumps (uniformRate (modelOf s)) (lastTime times) ++ room (length times * blockSize s) cells) ++ room (length times) levels))
+unfolding seriesJudgement seriesRows
+series-in-parts s times levels cells =
+    let first : Rows = framing s ++ quantities s times in
+    let run : Rows = jumps (uniformRate (modelOf s)) (lastTime times) ++ room (length times * blockSize s) cells in
+    ap (λ (t : Rows). judgedBy t) (ap (λ (t : Rows). t ++ room (length times) levels) (append-assoc (first ++ listing times) (jumps (uniformRate (modelOf s)) (lastTime times)) (room (length times * blockSize s) cells) ∙ append-assoc first (listing times) run) ∙ append-assoc first (listing times ++ run) (room (length times) levels))
+    ∙ in-parts first _ (uniformRate (modelOf s)) tt
 
 -- all of them: what acceptance tells
 pub accepted-file : (s : List ℕ) (cells : ℕ) → judgement s cells ≡ accepted tt → AcceptedFile s cells
-unfolding judgement rows room
+unfolding judgement rows jumps room
 accepted-file s cells passed =
     let X : Rows = jumps (uniformRate (modelOf s)) (timeField s) in
-    let C : Rows = room (stateCount s * highestMoment s) cells in
-    let last = none-in-parts (framing s ++ quantities s ++ X) C (none-hold (rows s cells) (tt {0}) tt passed) in
-    let to12 = none-in-parts (framing s ++ quantities s) X (last .0) in
-    let to11 = none-in-parts (framing s) (quantities s) (to12 .0) in
+    let C : Rows = room (blockSize s) cells in
+    let last = none-in-parts (framing s ++ quantities s [] ++ X) C (none-hold (rows s cells) (tt {0}) tt passed) in
+    let to12 = none-in-parts (framing s ++ quantities s []) X (last .0) in
+    let to11 = none-in-parts (framing s) (quantities s []) (to12 .0) in
     record {
       framed = framed-by s (to11 .0);
-      limits = limits-by s (to11 .0) (to11 .1) (to12 .1);
+      limits = limits-by s [] (timeField s) (to11 .0) (to11 .1) (times-by s [] (to11 .1) .0) (ltb-false 256000000 (uniformRate (modelOf s) * timeField s) (to12 .1 .0));
       room = ltb-false cells (stateCount s * highestMoment s) (last .1 .0);
     }
 
