@@ -30,11 +30,11 @@ pub struct Truncation {
     pub sum: u64,
 }
 
-// The level N, which is the least n that passes, and S(N). w(0) to w(N) are written into the array;
-// its entries past N stay. Left of m all weights are needed; right of it, each is computed when the
+// The level N, which is the least n that passes, and S(N). w(0) to w(N) are written into what is lent;
+// the entries past N stay. Left of m all weights are needed; right of it, each is computed when the
 // search comes to it. No n below m passes, and 2m + 51 does: the search is from m to there at most.
-pub fn truncate(x: u64, tolerance: u64, weights: &mut [u64; LEVELS]) -> Truncation
-    requires { ⌜ (x ≤ 256000000) × (1 ≤ tolerance) × (tolerance ≤ 100000000) ⌝ }
+pub fn truncate(x: u64, tolerance: u64, weights: &mut [u64]) -> Truncation
+    requires { ⌜ (x ≤ 256000000) × (1 ≤ tolerance) × (tolerance ≤ 100000000) × (LEVELS ≤ length (now weights)) ⌝ }
     ensures { λ r. ⌜ Truncated x tolerance (r .level) (r .sum) (now (weights .entry)) (now (weights .exit)) ⌝ }
 {
     let mut sum = leftward(x, weights);
