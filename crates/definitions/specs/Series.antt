@@ -1,10 +1,10 @@
 -- Document 02, S-3, "One model, several times": the levels and the blocks of moments of a file for a list of times, and demand 3 of them.
-use Prim.Native.Nat.{ℕ, _*_, _/_, _%_, _<_}
+use Prim.Native.Nat.{ℕ, _*_, _<_}
 use mathlib.Core.List.{List}
 use lib.ListN.{length, getD, take, drop}
 use Rattle.definitions.specs.declared.Series.{Series}
 use Rattle.definitions.specs.declared.Series.the-variants as series
-use Rattle.definitions.specs.Sums.{over}
+use Rattle.definitions.specs.Sums.{over, blocks}
 use Rattle.definitions.specs.File.{withTime}
 use Rattle.definitions.specs.Chain.{Model, modelOf, atTime}
 use Rattle.definitions.specs.Rules.{Answer, accepted, refused, blockSize}
@@ -19,10 +19,6 @@ modelAt s times k = atTime (modelOf s) (getD times k 0)
 unfoldable pub levelAt : List ℕ → List ℕ → ℕ → ℕ
 levelAt s times k = modelLevel (modelAt s times k)
 
--- what stands in cell p of all blocks, which follow each other: p is a cell of block p / (M × R), and there cell p % (M × R)
-unfoldable pub blockCell : List ℕ → List ℕ → ℕ → ℕ
-blockCell s times p = cell (modelAt s times (p / blockSize s)) (levelAt s times (p / blockSize s)) (p % blockSize s)
-
 -- document 02's answer for each case of the enum
 abbrev pub seriesAnswer : Series → Answer (Unit {0})
 seriesAnswer series.Accepted = accepted tt
@@ -33,9 +29,9 @@ unfoldable pub levelsAfter : Answer (Unit {0}) → List ℕ → List ℕ → Lis
 levelsAfter (accepted tt) s times levels = over (length times) (levelAt s times) levels
 levelsAfter (refused k) s times levels = levels
 
--- and all block cells
+-- and all block cells: block k has the moments of time k
 unfoldable pub blocksAfter : Answer (Unit {0}) → List ℕ → List ℕ → List ℕ → List ℕ
-blocksAfter (accepted tt) s times cells = over (length times * blockSize s) (blockCell s times) cells
+blocksAfter (accepted tt) s times cells = blocks (blockSize s) (length times) (λ k. cell (modelAt s times k) (levelAt s times k)) cells
 blocksAfter (refused k) s times cells = cells
 
 -- block k of the cells

@@ -1,5 +1,5 @@
 -- Sums, maxima and tests over 0 to n − 1, and a list whose first entries are given by a function.
-use Prim.Native.Nat.{ℕ, zero, suc, _+_, max}
+use Prim.Native.Nat.{ℕ, zero, suc, _+_, _*_, _/_, _%_, max}
 use mathlib.Core.List.{List, [], _∷_, _++_}
 use mathlib.Core.Bool.{Bool, true, false, _||_}
 use lib.ListN.{drop}
@@ -28,6 +28,10 @@ firsts (suc n) f = firsts n f ++ (f n ∷ [])
 -- the list l with its first n entries replaced by f 0, …, f (n − 1); the rest as in l
 unfoldable pub over : {A : Type 0} → ℕ → (ℕ → A) → List A → List A
 over n f l = firsts n f ++ drop n l
+
+-- the list l with its first count blocks, of size entries each, replaced: entry c of block k is f k c; the rest as in l
+unfoldable pub blocks : {A : Type 0} → ℕ → ℕ → (ℕ → ℕ → A) → List A → List A
+blocks size count f l = over (count * size) (λ p. f (p / size) (p % size)) l
 
 -- a where the test holds, b where it does not
 abbrev pub pick : {A : Type 0} → Bool → A → A → A

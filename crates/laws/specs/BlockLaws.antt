@@ -1,0 +1,98 @@
+-- Blocks of one size that follow each other in a list.
+use Prim.Native.Nat.{ℕ, zero, suc, _+_, _*_, _-_, _/_, _%_, _≤_, _<_}
+use native.Mathlib.Omega.{arith}
+use native.Mathlib.Nat.{mul-le-mul-right, add-zero, add-suc}
+use native.Mathlib.Decide.{decLt}
+use mathlib.Core.Path.{_≡_, refl, sym, _∙_, ap, ap₂}
+use mathlib.Core.List.{List, [], _∷_, _++_, append-assoc, append-nil}
+use lib.ListN.{length, getD, take, drop, length-take, length-drop}
+use lib.Seq.{take-at, drop-at, drop-drop, getD-take, getD-drop, ext-getD, length-take-le}
+use Rattle.definitions.specs.Sums.{firsts, over, blocks}
+use Rattle.laws.specs.Rounding.{quotient-below, remainder-below, row-of-place, place-in-row, place-below}
+use Rattle.laws.specs.ListLaws.{length-firsts, firsts-same, length-over, getD-over, over-none, over-same, over-further}
+
+-- the blocks up to block k end by the end of all blocks
+pub block-end : (k count size : ℕ) → k < count → k * size + size ≤ count * size
+block-end k count size h = let most : (k + 1) * size ≤ count * size = mul-le-mul-right size (omega arith) in omega (arith, most)
+
+module _ {A : Type 0} where
+  firsts-further : (a n : ℕ) (f : ℕ → A) → firsts (a + n) f ≡ firsts a f ++ firsts n (λ i. f (a + i))
+  unfolding firsts
+  firsts-further a zero f = rw add-zero (sym (append-nil (firsts a f)))
+  firsts-further a (suc n) f = rw add-suc (ap (λ (l : List A). l ++ (f (a + n) ∷ [])) (firsts-further a n f) ∙ append-assoc (firsts a f) (firsts n (λ i. f (a + i))) (f (a + n) ∷ []))
+
+  -- a list filled up to a, whose part from a on is filled up to n, is filled up to a + n
+  pub over-part : (a n : ℕ) (f g : ℕ → A) (l now : List A) → now ≡ over a f l → ((i : ℕ) → i < n → g i ≡ f (a + i)) → take a now ++ over n g (drop a now) ≡ over (a + n) f l
+  unfolding over
+  over-part a n f g l now e same =
+      ap₂ (λ (x y : List A). x ++ (firsts n g ++ drop n y)) (ap (take a) e ∙ take-at (firsts a f) (drop a l) a (length-firsts a f)) (ap (drop a) e ∙ drop-at (firsts a f) (drop a l) a (length-firsts a f))
+      ∙ ap₂ (λ (x y : List A). firsts a f ++ (x ++ y)) (firsts-same n g (λ i. f (a + i)) same) (drop-drop n a l)
+      ∙ sym (append-assoc (firsts a f) (firsts n (λ i. f (a + i))) (drop (a + n) l))
+      ∙ ap (λ (x : List A). x ++ drop (a + n) l) (sym (firsts-further a n f))
+
+  module _ (size : ℕ) where
+    pub blocks-none : (f : ℕ → ℕ → A) (l : List A) → blocks size 0 f l ≡ l
+    unfolding blocks
+    blocks-none f l = rw (let z : 0 * size ≡ 0 = omega arith in z) (over-none (λ p. f (p / size) (p % size)) l)
+
+    pub length-blocks : (count : ℕ) (f : ℕ → ℕ → A) (l : List A) → count * size ≤ length l → length (blocks size count f l) ≡ length l
+    unfolding blocks
+    length-blocks count f l h = length-over (count * size) (λ p. f (p / size) (p % size)) l h
+
+    -- entry c of block k
+    pub getD-blocks : (d : A) (count : ℕ) (f : ℕ → ℕ → A) (l : List A) (k c : ℕ) → k < count → c < size → getD (blocks size count f l) (k * size + c) d ≡ f k c
+    unfolding blocks
+    getD-blocks d count f l k c hk hc =
+        getD-over d (count * size) (λ p. f (p / size) (p % size)) l (k * size + c) (place-below k c count size hk hc)
+        ∙ ap₂ f (row-of-place k c size hc) (place-in-row k c size hc)
+
+    pub blocks-same : (count : ℕ) (f g : ℕ → ℕ → A) (l : List A) → ((k c : ℕ) → k < count → c < size → f k c ≡ g k c) → blocks size count f l ≡ blocks size count g l
+    unfolding blocks
+    blocks-same count f g l same =
+        over-same (count * size) (λ p. f (p / size) (p % size)) (λ p. g (p / size) (p % size)) l
+        (λ p h. same (p / size) (p % size) (quotient-below p count size h) (remainder-below p size (some p h)))
+      where
+        -- where there is a place there is a size
+        some : (p : ℕ) → p < count * size → 1 ≤ size
+        some p h = elim (decLt 0 size) [ yes pos ↦ pos | no q ↦ absurd (let none : size ≡ 0 = omega (arith, q) in omega (arith, rw none at h)) ]
+
+    -- the next block filled: one turn of every loop that fills a list block by block
+    pub blocks-store : (k : ℕ) (f : ℕ → ℕ → A) (g : ℕ → A) (l now : List A) → now ≡ blocks size k f l → ((c : ℕ) → c < size → g c ≡ f k c) → take (k * size) now ++ over size g (drop (k * size) now) ≡ blocks size (k + 1) f l
+    unfolding blocks
+    blocks-store k f g l now e same =
+        over-part (k * size) size (λ p. f (p / size) (p % size)) g l now e
+        (λ c h. same c h ∙ sym (ap₂ f (row-of-place k c size h) (place-in-row k c size h)))
+        ∙ ap (λ (n : ℕ). over n (λ p. f (p / size) (p % size)) l) (omega arith)
+
+    -- or left as it is, where it is filled already
+    pub blocks-skip : (d : A) (k : ℕ) (f : ℕ → ℕ → A) (l : List A) → k * size + size ≤ length l → ((c : ℕ) → c < size → f k c ≡ getD l (k * size + c) d) → blocks size k f l ≡ blocks size (k + 1) f l
+    unfolding blocks
+    blocks-skip d k f l room same =
+        over-further d (k * size) ((k + 1) * size) (λ p. f (p / size) (p % size)) l (omega arith) (omega (arith, room)) stays
+      where
+        stays : (p : ℕ) → k * size ≤ p → p < (k + 1) * size → f (p / size) (p % size) ≡ getD l p d
+        stays p low high =
+            let c : ℕ = p - k * size in
+            let at : k * size + c ≡ p = omega arith in
+            let inside : c < size = omega arith in
+            rw at at (ap₂ f (row-of-place k c size inside) (place-in-row k c size inside) ∙ same c inside)
+
+    -- one block alone
+    pub blocks-one : (f : ℕ → ℕ → A) (l : List A) → blocks size 1 f l ≡ over size (f 0) l
+    blocks-one f l =
+        sym (blocks-store 0 f (f 0) l l (sym (blocks-none f l)) (λ c h. refl))
+        ∙ rw (let z : 0 * size ≡ 0 = omega arith in z) refl
+
+    -- block k, taken out
+    pub block-is : (d : A) (count : ℕ) (f : ℕ → ℕ → A) (l : List A) (k : ℕ) → k < count → count * size ≤ length l → take size (drop (k * size) (blocks size count f l)) ≡ over size (f k) (take size (drop (k * size) l))
+    block-is d count f l k h room =
+        ext-getD d _ (over size (f k) (take size (drop (k * size) l))) (whole (blocks size count f l) (omega (arith, room, block-end k count size h, length-blocks count f l room)) ∙ sym (length-over size (f k) (take size (drop (k * size) l)) (omega (arith, whole l (omega (arith, room, block-end k count size h)))) ∙ whole l (omega (arith, room, block-end k count size h))))
+        (λ c b.
+        let inside : c < size = omega (arith, b, whole (blocks size count f l) (omega (arith, room, block-end k count size h, length-blocks count f l room))) in
+        getD-take size (drop (k * size) (blocks size count f l)) c d inside
+        ∙ getD-drop (k * size) (blocks size count f l) c d
+        ∙ getD-blocks d count f l k c h inside
+        ∙ sym (getD-over d size (f k) (take size (drop (k * size) l)) c inside))
+      where
+        whole : (x : List A) → k * size + size ≤ length x → length (take size (drop (k * size) x)) ≡ size
+        whole x enough = length-take-le size (drop (k * size) x) (omega (arith, enough, length-drop (k * size) x))
