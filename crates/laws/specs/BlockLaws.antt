@@ -1,15 +1,15 @@
 -- Blocks of one size that follow each other in a list.
 use Prim.Native.Nat.{ℕ, zero, suc, _+_, _*_, _-_, _/_, _%_, _≤_, _<_}
 use native.Mathlib.Omega.{arith}
-use native.Mathlib.Nat.{mul-le-mul-right, add-zero, add-suc}
+use native.Mathlib.Nat.{le-refl, mul-le-mul-right, add-zero, add-suc}
 use native.Mathlib.Decide.{decLt}
 use mathlib.Core.Path.{_≡_, refl, sym, _∙_, ap, ap₂}
 use mathlib.Core.List.{List, [], _∷_, _++_, append-assoc, append-nil}
-use lib.ListN.{length, getD, take, drop, length-take, length-drop}
-use lib.Seq.{take-at, drop-at, drop-drop, getD-take, getD-drop, ext-getD, length-take-le}
+use lib.ListN.{length, getD, take, drop, length-drop, take-append-drop}
+use lib.Seq.{take-at, drop-at, drop-drop, drop-append-le, getD-take, getD-drop, ext-getD, length-take-le}
 use Rattle.definitions.specs.Sums.{firsts, over, blocks}
 use Rattle.laws.specs.Rounding.{quotient-below, remainder-below, row-of-place, place-in-row, place-below}
-use Rattle.laws.specs.ListLaws.{length-firsts, firsts-same, length-over, getD-over, over-none, over-same, over-further}
+use Rattle.laws.specs.ListLaws.{length-firsts, firsts-same, length-over, getD-over, getD-over-past, over-none, over-same, over-further, over-again}
 
 -- the blocks up to block k end by the end of all blocks
 pub block-end : (k count size : ℕ) → k < count → k * size + size ≤ count * size
@@ -30,6 +30,18 @@ module _ {A : Type 0} where
       ∙ sym (append-assoc (firsts a f) (firsts n (λ i. f (a + i))) (drop (a + n) l))
       ∙ ap (λ (x : List A). x ++ drop (a + n) l) (sym (firsts-further a n f))
 
+  -- an entry of a part of k entries from a on
+  pub getD-part : (d : A) (a k : ℕ) (l : List A) (i : ℕ) → i < k → getD (take k (drop a l)) i d ≡ getD l (a + i) d
+  getD-part d a k l i h = getD-take k (drop a l) i d h ∙ getD-drop a l i d
+
+  -- such a part, filled up to n and put back
+  put-back : (a k n : ℕ) (g : ℕ → A) (l : List A) → n ≤ length (take k (drop a l)) → take a l ++ (over n g (take k (drop a l)) ++ drop k (drop a l)) ≡ take a l ++ over n g (drop a l)
+  unfolding over
+  put-back a k n g l h =
+      ap (λ (x : List A). take a l ++ x)
+      (append-assoc (firsts n g) (drop n (take k (drop a l))) (drop k (drop a l))
+      ∙ ap (λ (x : List A). firsts n g ++ x) (sym (drop-append-le n (take k (drop a l)) (drop k (drop a l)) h) ∙ ap (drop n) (take-append-drop k (drop a l))))
+
   module _ (size : ℕ) where
     pub blocks-none : (f : ℕ → ℕ → A) (l : List A) → blocks size 0 f l ≡ l
     unfolding blocks
@@ -45,6 +57,17 @@ module _ {A : Type 0} where
     getD-blocks d count f l k c hk hc =
         getD-over d (count * size) (λ p. f (p / size) (p % size)) l (k * size + c) (place-below k c count size hk hc)
         ∙ ap₂ f (row-of-place k c size hc) (place-in-row k c size hc)
+
+    -- what stands past the blocks is as it was
+    pub getD-blocks-past : (d : A) (count : ℕ) (f : ℕ → ℕ → A) (l : List A) (i : ℕ) → count * size ≤ i → getD (blocks size count f l) i d ≡ getD l i d
+    unfolding blocks
+    getD-blocks-past d count f l i h = getD-over-past d (count * size) (λ p. f (p / size) (p % size)) l i h
+
+    -- blocks filled once more: as if filled so at once
+    pub blocks-again : (d : A) (count : ℕ) (f g : ℕ → ℕ → A) (l now : List A) → count * size ≤ length l → now ≡ blocks size count f l → blocks size count g now ≡ blocks size count g l
+    unfolding blocks
+    blocks-again d count f g l now room e =
+        over-again d (count * size) (count * size) (λ p. f (p / size) (p % size)) (λ p. g (p / size) (p % size)) l now (le-refl (count * size)) room e
 
     pub blocks-same : (count : ℕ) (f g : ℕ → ℕ → A) (l : List A) → ((k c : ℕ) → k < count → c < size → f k c ≡ g k c) → blocks size count f l ≡ blocks size count g l
     unfolding blocks
@@ -64,18 +87,12 @@ module _ {A : Type 0} where
         (λ c h. same c h ∙ sym (ap₂ f (row-of-place k c size h) (place-in-row k c size h)))
         ∙ ap (λ (n : ℕ). over n (λ p. f (p / size) (p % size)) l) (omega arith)
 
-    -- or left as it is, where it is filled already
-    pub blocks-skip : (d : A) (k : ℕ) (f : ℕ → ℕ → A) (l : List A) → k * size + size ≤ length l → ((c : ℕ) → c < size → f k c ≡ getD l (k * size + c) d) → blocks size k f l ≡ blocks size (k + 1) f l
-    unfolding blocks
-    blocks-skip d k f l room same =
-        over-further d (k * size) ((k + 1) * size) (λ p. f (p / size) (p % size)) l (omega arith) (omega (arith, room)) stays
-      where
-        stays : (p : ℕ) → k * size ≤ p → p < (k + 1) * size → f (p / size) (p % size) ≡ getD l p d
-        stays p low high =
-            let c : ℕ = p - k * size in
-            let at : k * size + c ≡ p = omega arith in
-            let inside : c < size = omega arith in
-            rw at at (ap₂ f (row-of-place k c size inside) (place-in-row k c size inside) ∙ same c inside)
+    -- the same where block k was lent as a part of j entries, and came back filled
+    pub blocks-back : (k j : ℕ) (f : ℕ → ℕ → A) (g : ℕ → A) (l now part : List A) → now ≡ blocks size k f l → size ≤ length (take j (drop (k * size) now)) → part ≡ over size g (take j (drop (k * size) now)) → ((c : ℕ) → c < size → g c ≡ f k c) → take (k * size) now ++ (part ++ drop j (drop (k * size) now)) ≡ blocks size (k + 1) f l
+    blocks-back k j f g l now part e room filled same =
+        ap (λ (x : List A). take (k * size) now ++ (x ++ drop j (drop (k * size) now))) filled
+        ∙ put-back (k * size) j size g now room
+        ∙ blocks-store k f g l now e same
 
     -- one block alone
     pub blocks-one : (f : ℕ → ℕ → A) (l : List A) → blocks size 1 f l ≡ over size (f 0) l

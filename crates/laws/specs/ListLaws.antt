@@ -87,6 +87,10 @@ module _ {A : Type 0} where
                 ]
           ]
 
+  -- where f agrees with the list up to n, filling changes nothing
+  pub over-kept : (d : A) (n : ℕ) (f : ℕ → A) (l : List A) → n ≤ length l → ((k : ℕ) → k < n → f k ≡ getD l k d) → over n f l ≡ l
+  over-kept d n f l h same = sym (over-further d 0 n f l (omega arith) h (λ k low b. same k b)) ∙ over-none f l
+
   -- filled up to n, with the rest as f has it, the whole list is f's
   pub over-whole : (d : A) (n size : ℕ) (f : ℕ → A) (l : List A) → n ≤ size → length l ≡ size → ((k : ℕ) → n ≤ k → k < size → f k ≡ getD l k d) → over n f l ≡ firsts size f
   unfolding over

@@ -5,8 +5,8 @@ use mathlib.Core.Path.{_≡_, refl, sym}
 use lib.ListN.{length, length-set}
 use Rattle.definitions.specs.Sums.{over}
 use Rattle.laws.specs.ListLaws.{over-none, over-store}
-use Rattle.moments.proofs.clear.Statement.{statement}
-use Rattle.moments.proofs.clear.Tie as tie
+use Rattle.means.proofs.clear.Statement.{statement}
+use Rattle.means.proofs.clear.Tie as tie
 
 abbrev none : ℕ → ℕ
 none k = 0

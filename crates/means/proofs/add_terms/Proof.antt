@@ -11,10 +11,10 @@ use Rattle.definitions.specs.Moment.{term}
 use Rattle.laws.specs.Rounding.{row-of-place}
 use Rattle.laws.specs.ListLaws.{over-none, over-store, getD-over-past}
 use Rattle.laws.specs.MomentLaws.{state-of-cell, count-max}
-use Rattle.moments.specs.Running.{inTable}
-use Rattle.moments.specs.RunningLaws.{term-max, cell-in-table}
-use Rattle.moments.proofs.add_terms.Statement.{statement}
-use Rattle.moments.proofs.add_terms.Tie as tie
+use Rattle.means.specs.Running.{inTable}
+use Rattle.means.specs.RunningLaws.{term-max, cell-in-table}
+use Rattle.means.proofs.add_terms.Statement.{statement}
+use Rattle.means.proofs.add_terms.Tie as tie
 
 abbrev Inv-loop : tie.InvT-loop
 Inv-loop w table cells₀ highest count i₀ r₀ k₀ cells i r k =

@@ -1,0 +1,3 @@
+-- What the functions of means cite, and their laws.
+pub mod Running
+pub mod RunningLaws

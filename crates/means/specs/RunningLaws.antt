@@ -1,0 +1,173 @@
+-- The running sums: none at first, one n more at a time, and their range.
+use mathlib.Core.List.{List, []}
+use mathlib.Core.Path.{_≡_, refl, sym, _∙_, ap, ap₂}
+use mathlib.Core.Bool.{true, false}
+use Prim.Native.Nat.{ℕ, _+_, _-_, _*_, _/_, _%_, _≤_, _<_, min}
+use native.Mathlib.Nat.{mul-le-mul-left, le-trans}
+use native.Mathlib.Numerals.{add-one}
+use native.Mathlib.Decide.{decLe}
+use native.Mathlib.Omega.{arith}
+use lib.ListN.{length, getD, take, drop, length-take}
+use borrow.Author.Tests.{le-leb, lt-leb}
+use Rattle.definitions.specs.declared.Sizes.{Sizes}
+use Rattle.definitions.specs.Sums.{over, blocks}
+use Rattle.definitions.specs.Chain.{Chain, arrays}
+use Rattle.definitions.specs.Vectors.{ONE, U}
+use Rattle.definitions.specs.Weights.{GREATEST}
+use Rattle.definitions.specs.Moment.{term}
+use Rattle.laws.specs.Rounding.{quotient-at-most, quotient-below, row-of-place}
+use Rattle.laws.specs.SumLaws.{sum-zero, sum-suc, sum-mono, sum-constant}
+use Rattle.laws.specs.ListLaws.{over-kept, over-same}
+use Rattle.laws.specs.BlockLaws.{length-blocks, getD-blocks, getD-blocks-past, getD-part, blocks-same, blocks-again}
+use Rattle.laws.specs.VectorLaws.{Stochastic, U-bound}
+use Rattle.laws.specs.MomentLaws.{row-of-cell, state-of-cell, moment-of-cell}
+use Rattle.vectors.specs.Table.{tableOf}
+use Rattle.vectors.specs.TableLaws.{table-entry}
+use Rattle.means.specs.Running.{inTable, rowFrom, termAt, partSum, partSums, Addable, AllAddable, Summable}
+
+-- a term is at most its weight
+pub term-max : (w u : ℕ) → u ≤ ONE → term w u ≤ w
+unfolding term
+term-max w u h = quotient-at-most (w * u) w ONE (mul-le-mul-left w h)
+
+-- the cell of state i and moment r has the table's entry i of row r
+pub cell-in-table : (table : List (List ℕ)) (i r R k : ℕ) → k ≡ i * R + (r - 1) → 1 ≤ r → r ≤ R → inTable table R k ≡ getD (getD table r []) i 0
+cell-in-table table i r R k e low high =
+    rw e (ap₂ (λ (a b : ℕ). getD (getD table a []) b 0) (moment-of-cell i r R low high) (row-of-place i (r - 1) R (omega arith)))
+
+-- the terms of n added to the cells: up to the level their terms, past it none
+pub terms-up-to : (l row : List ℕ) (count n level : ℕ) (u : ℕ → ℕ) → n ≤ level → over count (λ e. getD l e 0 + term (getD row n 0) (u e)) l ≡ over count (λ e. getD l e 0 + termAt row n level (u e)) l
+terms-up-to l row count n level u h = over-same count _ _ l (λ e b. rw (le-leb n level h) refl)
+
+pub terms-past : (l row : List ℕ) (count n level : ℕ) (u : ℕ → ℕ) → level < n → count ≤ length l → l ≡ over count (λ e. getD l e 0 + termAt row n level (u e)) l
+terms-past l row count n level u h enough = sym (over-kept 0 count _ l enough (λ e b. rw (lt-leb n level h) (omega arith)))
+
+-- the sum in one cell
+module _ (ch : Chain) (w : List ℕ) (R : ℕ) where
+  part-none : (k : ℕ) → 0 ≡ partSum ch w R 0 k
+  unfolding partSum
+  part-none k = sym (sum-zero (λ j. term (getD w j 0) (U ch j (k % R + 1) (k / R))))
+
+  part-next : (n k : ℕ) → partSum ch w R (n + 1) k ≡ partSum ch w R n k + term (getD w n 0) (U ch n (k % R + 1) (k / R))
+  unfolding partSum
+  part-next n k =
+      ap (λ (x : ℕ). partSum ch w R x k) (add-one n) ∙ sum-suc n (λ j. term (getD w j 0) (U ch j (k % R + 1) (k / R)))
+
+  -- one term more, up to the level
+  part-taken : (n N k : ℕ) → partSum ch w R (min n (N + 1)) k + termAt w n N (U ch n (k % R + 1) (k / R)) ≡ partSum ch w R (min (n + 1) (N + 1)) k
+  part-taken n N k =
+      elim (decLe n N) [
+        | yes h ↦
+            let now : min n (N + 1) ≡ n = omega arith in
+            let next : min (n + 1) (N + 1) ≡ n + 1 = omega arith in
+            rw (le-leb n N h, now, next) (sym (part-next n k))
+        | no q ↦
+            let now : min n (N + 1) ≡ N + 1 = omega (arith, q) in
+            let next : min (n + 1) (N + 1) ≡ N + 1 = omega (arith, q) in
+            rw (lt-leb n N (omega (arith, q)), now, next) (omega arith)
+      ]
+
+  -- it stays small: a term is at most its weight
+  part-max : (n k : ℕ) → Stochastic ch → ((j : ℕ) → j < n → getD w j 0 ≤ GREATEST) → k < ch .states * R → partSum ch w R n k ≤ n * GREATEST
+  unfolding partSum
+  part-max n k s h l =
+      omega
+      (arith, sum-mono n (λ j. term (getD w j 0) (U ch j (k % R + 1) (k / R))) (λ j. GREATEST) (λ j b. le-trans (term-max (getD w j 0) _ (U-bound ch s j (k % R + 1) (k / R) (state-of-cell k (ch .states) R l))) (h j b)), sum-constant n GREATEST)
+
+in-table : (ch : Chain) (R n k : ℕ) → ch .states ≤ 64 → 1 ≤ R → R ≤ 8 → k < ch .states * R → inTable (tableOf ch R n) R k ≡ U ch n (k % R + 1) (k / R)
+in-table ch R n k states-max low high l =
+    table-entry ch R n high (k % R + 1) (k / R) (row-of-cell k R low) states-max (state-of-cell k (ch .states) R l)
+
+-- the sums in all blocks, over what stood there before
+module _ (ch : Chain) (levels w : List ℕ) (R : ℕ) (l : List ℕ) (enough : length levels * (ch .states * R) ≤ length l) where
+  pub length-sums : (n : ℕ) → length (partSums ch levels w R n l) ≡ length l
+  unfolding partSums
+  length-sums n = length-blocks (ch .states * R) (length levels) _ l enough
+
+  pub sums-at : (n k c : ℕ) → k < length levels → c < ch .states * R → getD (partSums ch levels w R n l) (k * (ch .states * R) + c) 0 ≡ partSum ch (rowFrom w k) R (min n (getD levels k 0 + 1)) c
+  unfolding partSums
+  sums-at n k c hk hc = getD-blocks (ch .states * R) 0 (length levels) _ l k c hk hc
+
+  -- no terms yet
+  pub sums-none : over (length levels * (ch .states * R)) (λ k. 0) l ≡ partSums ch levels w R 0 l
+  unfolding partSums blocks
+  sums-none =
+      over-same (length levels * (ch .states * R)) (λ k. 0) _ l
+      (λ p b. part-none ch (rowFrom w (p / (ch .states * R))) R (p % (ch .states * R)) ∙ ap (λ (n : ℕ). partSum ch (rowFrom w (p / (ch .states * R))) R n (p % (ch .states * R))) (omega arith))
+
+  -- over cells that hold sums already it does not matter what stood there before
+  pub sums-again : (n k : ℕ) (now : List ℕ) → now ≡ partSums ch levels w R n l → partSums ch levels w R k now ≡ partSums ch levels w R k l
+  unfolding partSums
+  sums-again n k now e = blocks-again (ch .states * R) 0 (length levels) _ _ l now enough e
+
+-- the same for a function that has the sums in its cells, over what stood there, and the table of a chain in arrays
+module _ (z : Sizes) (c f levels w : List ℕ) (g : Summable z c f levels w) (l : List ℕ) (enough : length levels * (z .states * z .highest) ≤ length l) where
+  abbrev ch : Chain
+  ch = arrays z c f
+
+  abbrev R : ℕ
+  R = z .highest
+
+  abbrev B : ℕ
+  B = z .states * z .highest
+
+  M-max : z .states ≤ 64
+  M-max = g .ready .rewards .states-max
+
+  vector-in : (n k : ℕ) → k < B → inTable (tableOf ch R n) R k ≡ U ch n (k % R + 1) (k / R)
+  vector-in n k b = in-table ch R n k M-max (g .highest-pos) (g .highest-max) b
+
+  room : (n k e : ℕ) → k < length levels → e < B → getD (partSums ch levels w R n l) (k * B + e) 0 ≤ 1000 * GREATEST
+  room n k e hk he =
+      omega
+      (arith, sums-at ch levels w R l enough n k e hk he, part-max ch (rowFrom w k) R (min n (getD levels k 0 + 1)) e (g .ready .stochastic) (λ j b. g .weight-max k j hk (omega arith)) he, g .level-max k hk)
+
+  -- the terms of n may be added to the sums of those before
+  pub may-add : (n : ℕ) (sums : List ℕ) (table : List (List ℕ)) → sums ≡ partSums ch levels w R n l → table ≡ tableOf ch R n → AllAddable z n levels w sums table
+  may-add n sums table es et =
+      rw (es, et)
+      (record {
+        enough = omega (arith, enough, length-sums ch levels w R l enough n);
+        rows = g .rows;
+        count-max = g .count-max;
+        states-max = M-max;
+        highest-pos = g .highest-pos;
+        highest-max = g .highest-max;
+        level-max = g .level-max;
+        weight-max = λ k hk h. g .weight-max k n hk h;
+        ticks-max = λ k b. rw (vector-in n k b) (U-bound ch (g .ready .stochastic) n (k % R + 1) (k / R) (state-of-cell k (z .states) R b));
+        room = λ k e hk he. room n k e hk he;
+      })
+
+  -- and make the sums up to n
+  pub added : (n : ℕ) (sums next : List ℕ) (table : List (List ℕ)) → sums ≡ partSums ch levels w R n l → table ≡ tableOf ch R n → next ≡ blocks B (length levels) (λ k e. getD sums (k * B + e) 0 + termAt (rowFrom w k) n (getD levels k 0) (inTable table R e)) sums → next ≡ partSums ch levels w R (n + 1) l
+  unfolding partSums
+  added n sums next table es et e =
+      e
+      ∙ blocks-again B 0 (length levels) _ _ l sums enough es
+      ∙ blocks-same B (length levels) _ _ l
+      (λ k i hk hi.
+      ap₂ _+_ (ap (λ (s : List ℕ). getD s (k * B + i) 0) es ∙ sums-at ch levels w R l enough n k i hk hi) (ap (termAt (rowFrom w k) n (getD levels k 0)) (ap (λ (t : List (List ℕ)). inTable t R i) et ∙ vector-in n i hi))
+      ∙ part-taken ch (rowFrom w k) R n (getD levels k 0) i)
+
+-- block k, lent as a part of j entries while the blocks before it are filled
+module _ (z : Sizes) (n : ℕ) (levels w l : List ℕ) (table : List (List ℕ)) (g : AllAddable z n levels w l table) (k j : ℕ) (hk : k < length levels) (f : ℕ → ℕ → ℕ) (now : List ℕ) (e : now ≡ blocks (z .states * z .highest) k f l) (whole : z .states * z .highest ≤ length (take j (drop (k * (z .states * z .highest)) now))) where
+  -- has the sums that were handed over
+  pub standing : (i : ℕ) → i < z .states * z .highest → getD (take j (drop (k * (z .states * z .highest)) now)) i 0 ≡ getD l (k * (z .states * z .highest) + i) 0
+  standing i b =
+      getD-part 0 (k * (z .states * z .highest)) j now i (omega (arith, whole, b, length-take j (drop (k * (z .states * z .highest)) now)))
+      ∙ ap (λ (x : List ℕ). getD x (k * (z .states * z .highest) + i) 0) e
+      ∙ getD-blocks-past (z .states * z .highest) 0 k f l (k * (z .states * z .highest) + i) (omega arith)
+
+  -- and the terms of n may be added to them
+  pub addable-at : (row : List ℕ) → row ≡ rowFrom w k → n ≤ getD levels k 0 → Addable z (getD row n 0) (take j (drop (k * (z .states * z .highest)) now)) table
+  addable-at row er h =
+      record {
+        enough = whole;
+        states-max = g .states-max;
+        highest-pos = g .highest-pos;
+        highest-max = g .highest-max;
+        weight-max = rw er (g .weight-max k hk h);
+        ticks-max = g .ticks-max;
+        room = λ i b. rw (standing i b) (g .room k i hk b);
+      }

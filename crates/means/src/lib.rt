@@ -1,0 +1,84 @@
+// The weighted means of the vectors of a chain that stands in arrays, for a list of expected jump counts X: a level for
+// each X, and a block of M × R cells with its moments. The vectors are computed once for all of them.
+//
+// The sums A stand in the cells until they are divided. The weights of X number k are row k of what is lent, LEVELS
+// entries long.
+ghost use mathlib.Core.Path.{_≡_};
+ghost use Prim.Native.Nat.{_+_, _*_, _^_, _<_, _≤_};
+ghost use lib.ListN.{length, getD};
+ghost use Rattle.definitions.specs.Sums.{largest, over, blocks};
+ghost use Rattle.definitions.specs.Chain.{arrays};
+ghost use Rattle.definitions.specs.Moment.{term, lastQuotient};
+ghost use Rattle.laws.specs.ArrayLaws.{entryOf};
+ghost use Rattle.means.specs.Running.{inTable, rowFrom, termAt, partSums, Addable, AllAddable, Summable, Divisible, AllDivisible};
+use definitions::ONE;
+use definitions::Sizes;
+
+// No term yet: 0 in the first cells.
+fn clear(count: usize, cells: &mut [u64])
+    requires { ⌜ count ≤ length (now cells) ⌝ }
+    ensures { λ r. ⌜ now (cells .exit) ≡ over count (λ k. 0) (now (cells .entry)) ⌝ }
+{
+    for k in 0..count {
+        cells[k] = 0;
+    }
+}
+
+// The sums A of one X, which stand in the cells, with the terms of one n added: w is w(n), and row r of the
+// table is U(n,r). Cell k is that of state i and moment r.
+fn add_terms(sizes: Sizes, w: u64, table: &[[u64; 64]; 9], cells: &mut [u64])
+    requires { ⌜ Addable sizes w (now cells) (now table) ⌝ }
+    ensures { λ r. ⌜ now (cells .exit) ≡ over (sizes .states * sizes .highest) (λ k. getD (now (cells .entry)) k 0 + term w (inTable (now (table .entry)) (sizes .highest) k)) (now (cells .entry)) ⌝ }
+{
+    let highest = sizes.highest;
+    let count = sizes.states * highest;
+    let mut i = 0;
+    let mut r = 1;
+    for k in 0..count {
+        cells[k] += muldiv::over_trillion(w, table[r][i]);
+        if r == highest {
+            r = 1;
+            i += 1;
+        } else {
+            r += 1;
+        }
+    }
+}
+
+// The same where the level is not below n, with w(n) from a row of weights; past the level the sums stay.
+fn add_up_to_level(
+    sizes: Sizes,
+    n: u64,
+    level: u64,
+    row: &[u64],
+    table: &[[u64; 64]; 9],
+    cells: &mut [u64],
+)
+    requires { ⌜ (n ≤ level → n < length (now row)) × (n ≤ level → Addable sizes (getD (now row) n 0) (now cells) (now table)) × (sizes .states * sizes .highest ≤ length (now cells)) ⌝ }
+    ensures { λ r. ⌜ now (cells .exit) ≡ over (sizes .states * sizes .highest) (λ e. getD (now (cells .entry)) e 0 + termAt (now (row .entry)) n level (inTable (now (table .entry)) (sizes .highest) e)) (now (cells .entry)) ⌝ }
+{
+    if n > level {
+        return;
+    }
+    add_terms(sizes, row[n as usize], table, cells);
+}
+
+// The same for every X: block k of the cells has the sums of X number k.
+fn add_to_blocks(
+    sizes: Sizes,
+    n: u64,
+    levels: &[u64],
+    weights: &[u64],
+    table: &[[u64; 64]; 9],
+    cells: &mut [u64],
+)
+    requires { ⌜ AllAddable sizes n (now levels) (now weights) (now cells) (now table) ⌝ }
+    ensures { λ r. ⌜ now (cells .exit) ≡ blocks (sizes .states * sizes .highest) (length (now (levels .entry))) (λ k e. getD (now (cells .entry)) (k * (sizes .states * sizes .highest) + e) 0 + termAt (rowFrom (now (weights .entry)) k) n (getD (now (levels .entry)) k 0) (inTable (now (table .entry)) (sizes .highest) e)) (now (cells .entry)) ⌝ }
+{
+    let block = sizes.states * sizes.highest;
+    let count = levels.len();
+    for k in 0..count {
+        let row = &weights[k * poisson::LEVELS..];
+        add_up_to_level(sizes, n, levels[k], row, table, &mut cells[k * block..]);
+    }
+}
