@@ -81,3 +81,8 @@ pub record Summable (z : Sizes) (c f levels w : List ℕ) : Type 0 where
   pub rows : length levels * LEVELS ≤ length w
   pub level-max : (k : ℕ) → k < length levels → getD levels k 0 < LEVELS
   pub weight-max : (k n : ℕ) → k < length levels → n ≤ getD levels k 0 → getD (rowFrom w k) n 0 ≤ GREATEST
+
+-- no level is above the largest, which is one that a level may be
+pub record Topmost (largest : ℕ) (levels : List ℕ) : Type 0 where
+  pub above : (k : ℕ) → k < length levels → getD levels k 0 ≤ largest
+  pub largest-max : largest < LEVELS

@@ -10,7 +10,7 @@ ghost use Rattle.definitions.specs.Sums.{largest, over, blocks};
 ghost use Rattle.definitions.specs.Chain.{arrays};
 ghost use Rattle.definitions.specs.Moment.{term, lastQuotient};
 ghost use Rattle.laws.specs.ArrayLaws.{entryOf};
-ghost use Rattle.means.specs.Running.{inTable, rowFrom, termAt, partSums, Addable, AllAddable, Summable, Divisible, AllDivisible};
+ghost use Rattle.means.specs.Running.{inTable, rowFrom, termAt, partSums, Topmost, Addable, AllAddable, Summable, Divisible, AllDivisible};
 use definitions::ONE;
 use definitions::Sizes;
 
@@ -80,5 +80,32 @@ fn add_to_blocks(
     for k in 0..count {
         let row = &weights[k * poisson::LEVELS..];
         add_up_to_level(sizes, n, levels[k], row, table, &mut cells[k * block..]);
+    }
+}
+
+// The sums A in all blocks: for every X, the sum over n = 0 to its level of w(n) * U(n,r) over 10^12. The vectors of each
+// n are computed once, as far as the largest level needs.
+fn accumulate(
+    sizes: Sizes,
+    chain: &[u32],
+    rewards: &[u64; 64],
+    levels: &[u64],
+    largest: u64,
+    weights: &[u64],
+    cells: &mut [u64],
+)
+    requires { ⌜ Summable sizes (now chain) (now rewards) (now levels) (now weights) × Topmost largest (now levels) × (length (now levels) * (sizes .states * sizes .highest) ≤ length (now cells)) ⌝ }
+    ensures { λ r. ⌜ now (cells .exit) ≡ partSums (arrays sizes (now (chain .entry)) (now (rewards .entry))) (now (levels .entry)) (now (weights .entry)) (sizes .highest) (largest + 1) (now (cells .entry)) ⌝ }
+{
+    let zeros = [0u64; 64];
+    let mut table = [zeros; 9];
+    vectors::first_table(sizes, rewards, &mut table);
+    clear(levels.len() * (sizes.states * sizes.highest), cells);
+    add_to_blocks(sizes, 0, levels, weights, &table, cells);
+    let mut n: u64 = 0;
+    while n < largest {
+        n += 1;
+        vectors::next_table(sizes, chain, rewards, n, &mut table);
+        add_to_blocks(sizes, n, levels, weights, &table, cells);
     }
 }

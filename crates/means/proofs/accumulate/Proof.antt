@@ -1,0 +1,121 @@
+-- The sums after n terms, and the vectors of n, as n rises to the largest level.
+use Prim.Native.Nat.{ℕ, _+_, _-_, _*_, _≤_}
+use native.Mathlib.Omega.{arith}
+use native.Mathlib.Nat.{mul-le-mul}
+use mathlib.Core.List.{List}
+use mathlib.Core.Path.{_≡_, refl, sym, _∙_, ap}
+use lib.ListN.{length}
+use Rattle.definitions.specs.Chain.{Chain, arrays}
+use Rattle.laws.specs.ArrayLaws.{zeros}
+use Rattle.laws.specs.MomentLaws.{count-max}
+use Rattle.vectors.specs.Table.{blank, tableOf}
+use Rattle.means.specs.Running.{partSums}
+use Rattle.means.specs.RunningLaws.{length-sums, sums-none, sums-again, may-add, added}
+use Rattle.means.proofs.accumulate.Statement.{statement}
+use Rattle.means.proofs.accumulate.Tie as tie
+
+abbrev Inv-loop : tie.InvT-loop
+Inv-loop sizes chain rewards levels largest weights cells₀ table₀ n₀ cells table n =
+    (n ≤ largest) × (table ≡ tableOf (arrays sizes chain rewards) (sizes .highest) n) × (cells ≡ partSums (arrays sizes chain rewards) levels weights (sizes .highest) (n + 1) cells₀)
+
+abbrev μ-loop : tie.MeasureT-loop
+μ-loop sizes chain rewards levels largest weights cells₀ table₀ n₀ cells table n = largest - n
+
+first-table-requires : tie.Need-first-table-requires Inv-loop μ-loop
+unfolding blank zeros
+first-table-requires c κs =
+    let start = c .before .before .before .before .before in
+    (start .pre .0 .ready .rewards, start .pre .0 .highest-max, refl)
+
+-- all cells of a block, and of all blocks
+blocks-max : (c : tie.Start Inv-loop μ-loop) → let block = c .args .sizes .states * c .args .sizes .highest in (block ≤ 512) × (length (c .args .levels .now) * block ≤ 8 * 512)
+blocks-max c =
+    let block = count-max (c .args .sizes .states) (c .args .sizes .highest) (c .pre .0 .ready .rewards .states-max) (c .pre .0 .highest-max) in
+    (block, mul-le-mul {n₂ = 8} {m₂ = 512} (c .pre .0 .count-max) block)
+
+add-requires : tie.Need-add-to-blocks-requires Inv-loop μ-loop
+add-requires c κs =
+    let start = c .before .before .before .before .before .before .before .before .before .before .before .before .before in
+    may-add (start .args .sizes) _ _ _ _ (start .pre .0) (start .args .cells .now) (start .pre .2) 0 _ _ (c .before .before .before .before .clear .ensures ∙ sums-none _ _ _ _ _ (start .pre .2)) (c .before .before .before .before .before .before .before .first-table .ensures (start .args .chain .now))
+
+-- where the loop begins the sums have the terms of n = 0
+module _ (b : tie.After-slice-known3 Inv-loop μ-loop) where
+  abbrev start : tie.Start Inv-loop μ-loop
+  start = b .before .before .before .before .before .before .before .before .before .before .before .before .before .before .before .before
+
+  abbrev ch : Chain
+  ch = arrays (start .args .sizes) (start .args .chain .now) (start .args .rewards .now)
+
+  abbrev sums : ℕ → List ℕ → List ℕ
+  sums n l = partSums ch (start .args .levels .now) (start .args .weights .now) (start .args .sizes .highest) n l
+
+  abbrev first : List ℕ
+  first = b .before .before .add-to-blocks .last .1 .1 .1 .1 .1 .0
+
+  table : b .before .before .before .before .before .before .before .before .before .before .first-table .last .1 .1 .0 ≡ tableOf ch (start .args .sizes .highest) 0
+  table = b .before .before .before .before .before .before .before .before .before .before .first-table .ensures (start .args .chain .now)
+
+  begun : first ≡ sums 1 (start .args .cells .now)
+  begun = added (start .args .sizes) _ _ _ _ (start .pre .0) (start .args .cells .now) (start .pre .2) 0 _ _ _ (b .before .before .before .before .before .before .before .clear .ensures ∙ sums-none _ _ _ _ _ (start .pre .2)) table (b .before .before .add-to-blocks .ensures)
+
+  -- over them it does not matter what stood in the cells before
+  again : (n : ℕ) → sums n first ≡ sums n (start .args .cells .now)
+  again n = sums-again ch _ _ _ (start .args .cells .now) (start .pre .2) 1 n first begun
+
+  enough : length (start .args .levels .now) * (start .args .sizes .states * start .args .sizes .highest) ≤ length first
+  enough = omega (arith, ap (length {A = ℕ}) begun, length-sums ch (start .args .levels .now) (start .args .weights .now) (start .args .sizes .highest) (start .args .cells .now) (start .pre .2) 1, start .pre .2)
+
+loop-holds : tie.Need-loop-holds Inv-loop μ-loop
+loop-holds c = (omega arith, table c, begun c ∙ sym (again c 1))
+
+next-table-requires : tie.Need-next-table-requires Inv-loop μ-loop
+next-table-requires c κs =
+    let given = start (c .before .before .before) .pre in
+    let turn = c .before .before .loop in
+    let back : turn .n + 1 - 1 ≡ turn .n = omega arith in
+    ((given .0 .ready, given .0 .highest-max, omega arith, omega (arith, given .1 .largest-max)), rw back (turn .inv .1))
+
+add-requires-2 : tie.Need-add-to-blocks-requires-2 Inv-loop μ-loop
+add-requires-2 c κs =
+    let b = c .before .before .before .before .before .before in
+    let turn = c .before .before .before .before .before .loop in
+    may-add (start b .args .sizes) _ _ _ _ (start b .pre .0) (first b) (enough b) (turn .n + 1) _ _ (turn .inv .2) (c .before .before .next-table .ensures)
+
+loop-again : tie.Need-loop-again Inv-loop μ-loop
+loop-again c =
+    let b = c .before .before .before .before .before .before .before .before .before in
+    let turn = c .before .before .before .before .before .before .before .before .loop in
+    let next = c .before .before .before .before .before .next-table .ensures in
+    (omega arith, next, added (start b .args .sizes) _ _ _ _ (start b .pre .0) (first b) (enough b) (turn .n + 1) _ _ _ (turn .inv .2) next (c .before .before .add-to-blocks2 .ensures))
+
+-- the sums up to the largest level, over what stood in the cells
+all : (c : tie.After-loop Inv-loop μ-loop) → let b = c .before .before in c .before .loop .cells ≡ sums b (start b .args .largest + 1) (start b .args .cells .now)
+all c =
+    let b = c .before .before in
+    let done : c .before .loop .n ≡ start b .args .largest = omega arith in
+    rw done at (c .before .loop .inv .2) ∙ again b (start b .args .largest + 1)
+
+same-length : tie.Need-same-length Inv-loop μ-loop
+same-length c =
+    let b = c .before .before in
+    ap (length {A = ℕ}) (all c) ∙ length-sums (ch b) _ _ _ (start b .args .cells .now) (start b .pre .2) (start b .args .largest + 1)
+
+pub accumulate-spec : {M : Type 1} → statement M
+accumulate-spec =
+    tie.close
+    (tie.spec
+    Inv-loop
+    μ-loop
+    first-table-requires
+    (λ c. omega (arith, blocks-max (c .before .before .before .before .before .before .before) .0))
+    (λ c. omega (arith, blocks-max (c .before .before .before .before .before .before .before) .1))
+    (λ c κs. c .before .before .before .before .before .before .before .before .pre .2)
+    add-requires
+    loop-holds
+    (λ c. omega arith)
+    next-table-requires
+    add-requires-2
+    (λ c. omega arith)
+    loop-again
+    same-length
+    all)
