@@ -5,7 +5,7 @@ use native.Mathlib.Nat.{le-refl, mul-le-mul-right, add-zero, add-suc}
 use native.Mathlib.Decide.{decLt}
 use mathlib.Core.Path.{_≡_, refl, sym, _∙_, ap, ap₂}
 use mathlib.Core.List.{List, [], _∷_, _++_, append-assoc, append-nil}
-use lib.ListN.{length, getD, take, drop, length-drop, take-append-drop}
+use lib.ListN.{length, getD, take, drop, length-take, length-drop, take-append-drop}
 use lib.Seq.{take-at, drop-at, drop-drop, drop-append-le, getD-take, getD-drop, ext-getD, length-take-le}
 use Rattle.definitions.specs.Sums.{firsts, over, blocks}
 use Rattle.laws.specs.Rounding.{quotient-below, remainder-below, row-of-place, place-in-row, place-below}
@@ -86,6 +86,17 @@ module _ {A : Type 0} where
         over-part (k * size) size (λ p. f (p / size) (p % size)) g l now e
         (λ c h. same c h ∙ sym (ap₂ f (row-of-place k c size h) (place-in-row k c size h)))
         ∙ ap (λ (n : ℕ). over n (λ p. f (p / size) (p % size)) l) (omega arith)
+
+    -- block k is whole in what is lent from its start to the end
+    pub block-whole : (k : ℕ) (now : List A) → k * size + size ≤ length now → size ≤ length (take (length now - k * size) (drop (k * size) now))
+    block-whole k now h = omega (arith, h, length-take (length now - k * size) (drop (k * size) now), length-drop (k * size) now)
+
+    -- an entry of block k, lent as a part of j entries while the blocks before it are filled, is as it was
+    pub getD-next : (d : A) (k j : ℕ) (f : ℕ → ℕ → A) (l now : List A) → now ≡ blocks size k f l → size ≤ length (take j (drop (k * size) now)) → (i : ℕ) → i < size → getD (take j (drop (k * size) now)) i d ≡ getD l (k * size + i) d
+    getD-next d k j f l now e whole i b =
+        getD-part d (k * size) j now i (omega (arith, whole, b, length-take j (drop (k * size) now)))
+        ∙ ap (λ (x : List A). getD x (k * size + i) d) e
+        ∙ getD-blocks-past d k f l (k * size + i) (omega arith)
 
     -- the same where block k was lent as a part of j entries, and came back filled
     pub blocks-back : (k j : ℕ) (f : ℕ → ℕ → A) (g : ℕ → A) (l now part : List A) → now ≡ blocks size k f l → size ≤ length (take j (drop (k * size) now)) → part ≡ over size g (take j (drop (k * size) now)) → ((c : ℕ) → c < size → g c ≡ f k c) → take (k * size) now ++ (part ++ drop j (drop (k * size) now)) ≡ blocks size (k + 1) f l

@@ -7,7 +7,7 @@ use native.Mathlib.Nat.{mul-le-mul-left, le-trans}
 use native.Mathlib.Numerals.{add-one}
 use native.Mathlib.Decide.{decLe}
 use native.Mathlib.Omega.{arith}
-use lib.ListN.{length, getD, take, drop, length-take}
+use lib.ListN.{length, getD, take, drop}
 use borrow.Author.Tests.{le-leb, lt-leb}
 use Rattle.definitions.specs.declared.Sizes.{Sizes}
 use Rattle.definitions.specs.Sums.{over, blocks}
@@ -18,7 +18,7 @@ use Rattle.definitions.specs.Moment.{term}
 use Rattle.laws.specs.Rounding.{quotient-at-most, quotient-below, row-of-place}
 use Rattle.laws.specs.SumLaws.{sum-zero, sum-suc, sum-mono, sum-constant}
 use Rattle.laws.specs.ListLaws.{over-kept, over-same}
-use Rattle.laws.specs.BlockLaws.{length-blocks, getD-blocks, getD-blocks-past, getD-part, blocks-same, blocks-again}
+use Rattle.laws.specs.BlockLaws.{length-blocks, getD-blocks, getD-next, blocks-same, blocks-again}
 use Rattle.laws.specs.VectorLaws.{Stochastic, U-bound}
 use Rattle.laws.specs.MomentLaws.{row-of-cell, state-of-cell, moment-of-cell}
 use Rattle.vectors.specs.Table.{tableOf}
@@ -150,24 +150,15 @@ module _ (z : Sizes) (c f levels w : List ℕ) (g : Summable z c f levels w) (l 
       ap₂ _+_ (ap (λ (s : List ℕ). getD s (k * B + i) 0) es ∙ sums-at ch levels w R l enough n k i hk hi) (ap (termAt (rowFrom w k) n (getD levels k 0)) (ap (λ (t : List (List ℕ)). inTable t R i) et ∙ vector-in n i hi))
       ∙ part-taken ch (rowFrom w k) R n (getD levels k 0) i)
 
--- block k, lent as a part of j entries while the blocks before it are filled
-module _ (z : Sizes) (n : ℕ) (levels w l : List ℕ) (table : List (List ℕ)) (g : AllAddable z n levels w l table) (k j : ℕ) (hk : k < length levels) (f : ℕ → ℕ → ℕ) (now : List ℕ) (e : now ≡ blocks (z .states * z .highest) k f l) (whole : z .states * z .highest ≤ length (take j (drop (k * (z .states * z .highest)) now))) where
-  -- has the sums that were handed over
-  pub standing : (i : ℕ) → i < z .states * z .highest → getD (take j (drop (k * (z .states * z .highest)) now)) i 0 ≡ getD l (k * (z .states * z .highest) + i) 0
-  standing i b =
-      getD-part 0 (k * (z .states * z .highest)) j now i (omega (arith, whole, b, length-take j (drop (k * (z .states * z .highest)) now)))
-      ∙ ap (λ (x : List ℕ). getD x (k * (z .states * z .highest) + i) 0) e
-      ∙ getD-blocks-past (z .states * z .highest) 0 k f l (k * (z .states * z .highest) + i) (omega arith)
-
-  -- and the terms of n may be added to them
-  pub addable-at : (row : List ℕ) → row ≡ rowFrom w k → n ≤ getD levels k 0 → Addable z (getD row n 0) (take j (drop (k * (z .states * z .highest)) now)) table
-  addable-at row er h =
-      record {
-        enough = whole;
-        states-max = g .states-max;
-        highest-pos = g .highest-pos;
-        highest-max = g .highest-max;
-        weight-max = rw er (g .weight-max k hk h);
-        ticks-max = g .ticks-max;
-        room = λ i b. rw (standing i b) (g .room k i hk b);
-      }
+-- the terms of n may be added to block k, lent as a part of j entries while the blocks before it have theirs
+pub addable-at : (z : Sizes) (n : ℕ) (levels w l : List ℕ) (table : List (List ℕ)) → AllAddable z n levels w l table → (k j : ℕ) → k < length levels → (f : ℕ → ℕ → ℕ) (now : List ℕ) → now ≡ blocks (z .states * z .highest) k f l → z .states * z .highest ≤ length (take j (drop (k * (z .states * z .highest)) now)) → (row : List ℕ) → row ≡ rowFrom w k → n ≤ getD levels k 0 → Addable z (getD row n 0) (take j (drop (k * (z .states * z .highest)) now)) table
+addable-at z n levels w l table g k j hk f now e whole row er h =
+    record {
+      enough = whole;
+      states-max = g .states-max;
+      highest-pos = g .highest-pos;
+      highest-max = g .highest-max;
+      weight-max = rw er (g .weight-max k hk h);
+      ticks-max = g .ticks-max;
+      room = λ i b. rw (getD-next (z .states * z .highest) 0 k j f l now e whole i b) (g .room k i hk b);
+    }

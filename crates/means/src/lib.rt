@@ -4,13 +4,14 @@
 // The sums A stand in the cells until they are divided. The weights of X number k are row k of what is lent, LEVELS
 // entries long.
 ghost use mathlib.Core.Path.{_≡_};
-ghost use Prim.Native.Nat.{_+_, _*_, _^_, _<_, _≤_};
+ghost use Prim.Native.Nat.{max, _+_, _*_, _^_, _<_, _≤_};
 ghost use lib.ListN.{length, getD};
-ghost use Rattle.definitions.specs.Sums.{largest, over, blocks};
+ghost use Rattle.definitions.specs.Sums.{over, blocks};
 ghost use Rattle.definitions.specs.Chain.{arrays};
 ghost use Rattle.definitions.specs.Moment.{term, lastQuotient};
-ghost use Rattle.laws.specs.ArrayLaws.{entryOf};
+ghost use Rattle.laws.specs.LevelLaws.{LEVELS};
 ghost use Rattle.means.specs.Running.{inTable, rowFrom, termAt, partSums, Topmost, Addable, AllAddable, Summable, Divisible, AllDivisible};
+ghost use Rattle.means.specs.Solving.{Truncatable, Truncations, levelOf, meansOf, Solvable};
 use definitions::ONE;
 use definitions::Sizes;
 
@@ -108,4 +109,96 @@ fn accumulate(
         vectors::next_table(sizes, chain, rewards, n, &mut table);
         add_to_blocks(sizes, n, levels, weights, &table, cells);
     }
+}
+
+// The last quotient: A * 10^12 over S(N), to the nearest tick, a half going up. The half ticks are
+// rounded down; one half more, cut to whole ticks, is the nearest.
+fn last_quotient(sum: u64, total: u64) -> u64
+    requires { ⌜ (sum ≤ total) × (0 < total) × (total < 2 ^ 62) ⌝ }
+    ensures { λ r. ⌜ r ≡ lastQuotient sum total ⌝ }
+{
+    let half_ticks = muldiv::scaled(sum, 2 * ONE, total);
+    (half_ticks + 1) / 2
+}
+
+// The moments in the place of the sums: the last quotient of each.
+fn divide_sums(total: u64, count: usize, cells: &mut [u64])
+    requires { ⌜ Divisible (now cells) total count ⌝ }
+    ensures { λ r. ⌜ now (cells .exit) ≡ over count (λ k. lastQuotient (getD (now (cells .entry)) k 0) total) (now (cells .entry)) ⌝ }
+{
+    for k in 0..count {
+        cells[k] = last_quotient(cells[k], total);
+    }
+}
+
+// The same in all blocks, each with its own S(N).
+fn divide_blocks(totals: &[u64], block: usize, cells: &mut [u64])
+    requires { ⌜ AllDivisible (now cells) (now totals) block ⌝ }
+    ensures { λ r. ⌜ now (cells .exit) ≡ blocks block (length (now (totals .entry))) (λ k e. lastQuotient (getD (now (cells .entry)) (k * block + e) 0) (getD (now (totals .entry)) k 0)) (now (cells .entry)) ⌝ }
+{
+    let count = totals.len();
+    for k in 0..count {
+        divide_sums(totals[k], block, &mut cells[k * block..]);
+    }
+}
+
+fn larger(a: u64, b: u64) -> u64
+    ensures { λ r. ⌜ r ≡ max a b ⌝ }
+{
+    if a < b { b } else { a }
+}
+
+// For each X its level, its S(N) and its row of weights. Returns the largest level: it need not be that of the last X.
+fn truncate_each(
+    xs: &[u64],
+    tolerance: u64,
+    levels: &mut [u64],
+    totals: &mut [u64],
+    weights: &mut [u64],
+) -> u64
+    requires { ⌜ Truncatable (now xs) tolerance × (length (now xs) ≤ length (now levels)) × (length (now xs) ≤ length (now totals)) × (length (now xs) * LEVELS ≤ length (now weights)) ⌝ }
+    ensures { λ r. ⌜ Truncations (now (xs .entry)) tolerance r (now (levels .entry)) (now (levels .exit)) (now (totals .exit)) (now (weights .exit)) ⌝ }
+{
+    let count = xs.len();
+    let mut largest: u64 = 0;
+    for k in 0..count {
+        let row = &mut weights[k * poisson::LEVELS..];
+        let cut = poisson::truncate(xs[k], tolerance, row);
+        levels[k] = cut.level;
+        totals[k] = cut.sum;
+        largest = larger(largest, cut.level);
+    }
+    largest
+}
+
+// The levels of a list of X, and the moments of a chain in arrays for each: level k and block k of the cells are those of X
+// number k. The rows of weights are lent.
+pub fn solve(
+    sizes: Sizes,
+    chain: &[u32],
+    rewards: &[u64; 64],
+    xs: &[u64],
+    tolerance: u64,
+    weights: &mut [u64],
+    levels: &mut [u64],
+    cells: &mut [u64],
+)
+    requires { ⌜ Solvable sizes (now chain) (now rewards) (now xs) tolerance ⌝ }
+    requires { ⌜ (length (now xs) * LEVELS ≤ length (now weights)) × (length (now xs) ≤ length (now levels)) × (length (now xs) * (sizes .states * sizes .highest) ≤ length (now cells)) ⌝ }
+    ensures levels { λ r. ⌜ now (levels .exit) ≡ over (length (now (xs .entry))) (levelOf (now (xs .entry)) tolerance) (now (levels .entry)) ⌝ }
+    ensures cells { λ r. ⌜ now (cells .exit) ≡ blocks (sizes .states * sizes .highest) (length (now (xs .entry))) (meansOf (arrays sizes (now (chain .entry)) (now (rewards .entry))) (now (xs .entry)) tolerance (sizes .highest)) (now (cells .entry)) ⌝ }
+{
+    let count = xs.len();
+    let mut totals = [0u64; 8];
+    let largest = truncate_each(xs, tolerance, levels, &mut totals, weights);
+    accumulate(
+        sizes,
+        chain,
+        rewards,
+        &levels[..count],
+        largest,
+        weights,
+        cells,
+    );
+    divide_blocks(&totals[..count], sizes.states * sizes.highest, cells);
 }

@@ -4,14 +4,14 @@ use native.Mathlib.Omega.{arith}
 use native.Mathlib.Nat.{mul-le-mul}
 use mathlib.Core.Path.{_≡_, refl, sym, _∙_, ap, ap₂}
 use mathlib.Core.List.{List}
-use lib.ListN.{length, getD, take, drop, length-take, length-drop}
+use lib.ListN.{length, getD, take, drop, length-drop}
 use borrow.Rule.Slice.PartAt.{part-to-end}
 use Rattle.definitions.specs.Sums.{blocks}
-use Rattle.laws.specs.BlockLaws.{block-end, blocks-none, length-blocks, blocks-back}
+use Rattle.laws.specs.BlockLaws.{block-end, blocks-none, length-blocks, block-whole, getD-next, blocks-back}
 use Rattle.laws.specs.LevelLaws.{LEVELS}
 use Rattle.laws.specs.MomentLaws.{count-max}
 use Rattle.means.specs.Running.{inTable, rowFrom, termAt}
-use Rattle.means.specs.RunningLaws.{standing, addable-at}
+use Rattle.means.specs.RunningLaws.{addable-at}
 use Rattle.means.proofs.add_to_blocks.Statement.{statement}
 use Rattle.means.proofs.add_to_blocks.Tie as tie
 
@@ -58,7 +58,7 @@ module _ (c : tie.In-loop Inv-loop μ-loop) where
   part = take entries (drop (k * B start) (c .before .loop .cells))
 
   whole : B start ≤ length part
-  whole = omega (arith, block-room, length-take entries (drop (k * B start) (c .before .loop .cells)), length-drop (k * B start) (c .before .loop .cells))
+  whole = block-whole (B start) k (c .before .loop .cells) block-room
 
   abbrev row : List ℕ
   row = take (length (start .args .weights .now) - k * LEVELS) (drop (k * LEVELS) (start .args .weights .now))
@@ -70,7 +70,7 @@ module _ (c : tie.In-loop Inv-loop μ-loop) where
   is-summed : (e : ℕ) → e < B start → getD part e 0 + termAt row (start .args .n) (getD (start .args .levels .now) k 0) (inTable (start .args .table .now) (start .args .sizes .highest) e) ≡ summed start k e
   is-summed e b =
       ap₂ (λ (a : ℕ) (x : List ℕ). a + termAt x (start .args .n) (getD (start .args .levels .now) k 0) (inTable (start .args .table .now) (start .args .sizes .highest) e))
-      (standing (start .args .sizes) (start .args .n) (start .args .levels .now) (start .args .weights .now) (start .args .cells .now) (start .args .table .now) (start .pre) k entries (c .loop-test .taken) (summed start) (c .before .loop .cells) (c .before .loop .inv .1) whole e b)
+      (getD-next (B start) 0 k entries (summed start) (start .args .cells .now) (c .before .loop .cells) (c .before .loop .inv .1) whole e b)
       is-row
 
   small : k * B start ≤ 8 * 512

@@ -1,0 +1,166 @@
+-- The rows of weights, and that the sums and their quotients are the weighted means.
+use mathlib.Core.List.{List, _++_}
+use mathlib.Core.Path.{_≡_, refl, sym, _∙_, ap, ap₂}
+use Prim.Native.Nat.{ℕ, suc, _+_, _*_, _-_, _/_, _%_, _≤_, _<_, min}
+use native.Mathlib.Numerals.{add-one}
+use native.Mathlib.Decide.{ℕ-discrete}
+use native.Mathlib.Omega.{arith}
+use lib.ListN.{length, getD, take, drop, List·getD-append}
+use lib.Seq.{length-take-le, getD-take, getD-drop, drop-at}
+use Rattle.definitions.specs.declared.Sizes.{Sizes}
+use Rattle.definitions.specs.Sums.{largest, over, blocks}
+use Rattle.definitions.specs.Chain.{Chain, arrays}
+use Rattle.definitions.specs.Vectors.{U}
+use Rattle.definitions.specs.Weights.{weight, weightSum}
+use Rattle.definitions.specs.Moment.{term, weighted, lastQuotient, weightedMean}
+use Rattle.laws.specs.SumLaws.{sum-same, le-largest, largest-le}
+use Rattle.laws.specs.ListLaws.{length-over, getD-over}
+use Rattle.laws.specs.BlockLaws.{block-end, blocks-same, blocks-again}
+use Rattle.laws.specs.VectorLaws.{U-bound}
+use Rattle.laws.specs.WeightLaws.{weight-max, weightSum-min, weightSum-max}
+use Rattle.laws.specs.LevelLaws.{LEVELS, level-max, level-mode}
+use Rattle.laws.specs.MomentLaws.{state-of-cell, weighted-max, count-max}
+use Rattle.means.specs.Running.{rowFrom, partSum, partSums, Topmost, Summable, AllDivisible}
+use Rattle.means.specs.RunningLaws.{length-sums, sums-at}
+use Rattle.means.specs.Solving.{Truncatable, levelOf, totalOf, RowHolds, Truncations, cellMean, meansOf, Solvable}
+
+module _ (xs : List ℕ) (ε : ℕ) (g : Truncatable xs ε) where
+  -- a level is an index of its row
+  short : (k : ℕ) → k < length xs → levelOf xs ε k < LEVELS
+  short k h = level-max (getD xs k 0) ε (g .jumps-max k h) (g .tolerance-pos)
+
+  -- row k, lent as a part of j entries and filled up to its level, put back: the rows up to it hold their weights
+  pub rows-stored : (k j : ℕ) (w part : List ℕ) → k < length xs → k * LEVELS ≤ length w → LEVELS ≤ length (take j (drop (k * LEVELS) w)) → part ≡ over (levelOf xs ε k + 1) (weight (getD xs k 0)) (take j (drop (k * LEVELS) w)) → ((i : ℕ) → i < k → RowHolds xs ε w i) → (i : ℕ) → i < k + 1 → RowHolds xs ε (take (k * LEVELS) w ++ (part ++ drop j (drop (k * LEVELS) w))) i
+  rows-stored k j w part hk room whole filled before i b n h = elim (ℕ-discrete i k) [ yes e ↦ here e | no ne ↦ there (omega arith) ]
+    where
+      rest : List ℕ
+      rest = part ++ drop j (drop (k * LEVELS) w)
+
+      front : length (take (k * LEVELS) w) ≡ k * LEVELS
+      front = length-take-le (k * LEVELS) w room
+
+      inside : n < length part
+      inside = omega (arith, h, short i (omega arith), whole, ap length filled, length-over (levelOf xs ε k + 1) (weight (getD xs k 0)) (take j (drop (k * LEVELS) w)) (omega (arith, short k hk, whole)))
+
+      here : i ≡ k → getD (rowFrom (take (k * LEVELS) w ++ rest) i) n 0 ≡ weight (getD xs i 0) n
+      here e =
+          ap (λ (m : ℕ). getD (drop (m * LEVELS) (take (k * LEVELS) w ++ rest)) n 0) e
+          ∙ ap (λ (l : List ℕ). getD l n 0) (drop-at (take (k * LEVELS) w) rest (k * LEVELS) front)
+          ∙ List·getD-append part (drop j (drop (k * LEVELS) w)) 0 n inside
+          ∙ ap (λ (l : List ℕ). getD l n 0) filled
+          ∙ getD-over 0 (levelOf xs ε k + 1) (weight (getD xs k 0)) (take j (drop (k * LEVELS) w)) n (omega (arith, h, ap (levelOf xs ε) e))
+          ∙ ap (λ (m : ℕ). weight (getD xs m 0) n) (sym e)
+
+      there : i < k → getD (rowFrom (take (k * LEVELS) w ++ rest) i) n 0 ≡ weight (getD xs i 0) n
+      there earlier =
+          let place : i * LEVELS + n < k * LEVELS = omega (arith, block-end i k LEVELS earlier, h, short i (omega arith)) in
+          getD-drop (i * LEVELS) (take (k * LEVELS) w ++ rest) n 0
+          ∙ List·getD-append (take (k * LEVELS) w) rest 0 (i * LEVELS + n) (omega (arith, place, front))
+          ∙ getD-take (k * LEVELS) w (i * LEVELS + n) 0 place
+          ∙ sym (getD-drop (i * LEVELS) w n 0)
+          ∙ before i earlier n h
+
+module _ (z : Sizes) (c f xs : List ℕ) (ε : ℕ) (g : Solvable z c f xs ε) (top : ℕ) (before levels totals w : List ℕ) (t : Truncations xs ε top before levels totals w) (held : length xs ≤ length before) where
+  abbrev ch : Chain
+  ch = arrays z c f
+
+  abbrev R : ℕ
+  R = z .highest
+
+  abbrev B : ℕ
+  B = z .states * z .highest
+
+  -- the levels that are used
+  abbrev used : List ℕ
+  used = take (length xs) levels
+
+  count-used : length used ≡ length xs
+  count-used = length-take-le (length xs) levels (omega (arith, held, ap length (t .are-levels), length-over (length xs) (levelOf xs ε) before held))
+
+  level-in : (k : ℕ) → k < length xs → getD used k 0 ≡ levelOf xs ε k
+  level-in k h =
+      getD-take (length xs) levels k 0 h
+      ∙ ap (λ (l : List ℕ). getD l k 0) (t .are-levels)
+      ∙ getD-over 0 (length xs) (levelOf xs ε) before k h
+
+  level-short : (k : ℕ) → k < length xs → levelOf xs ε k < LEVELS
+  level-short k h = short xs ε (g .truncatable) k h
+
+  pub topmost : Topmost top used
+  topmost =
+      record {
+        above = λ k h. omega (arith, level-in k (omega (arith, h, count-used)), t .is-largest, le-largest (length xs) (levelOf xs ε) k (omega (arith, h, count-used)));
+        largest-max = omega (arith, t .is-largest, largest-le (length xs) 563 (levelOf xs ε) (λ k h. omega (arith, level-short k h)));
+      }
+
+  pub summable : length xs * LEVELS ≤ length w → Summable z c f used w
+  summable room =
+      record {
+        ready = g .ready;
+        highest-pos = g .highest-pos;
+        highest-max = g .highest-max;
+        count-max = omega (arith, count-used, g .truncatable .count-max);
+        rows = rw count-used room;
+        level-max = λ k h. let b : k < length xs = omega (arith, h, count-used) in omega (arith, level-in k b, level-short k b);
+        weight-max =
+            λ k n h l.
+            let b : k < length xs = omega (arith, h, count-used) in
+            rw (t .rows k b n (omega (arith, l, level-in k b))) (weight-max (getD xs k 0) n);
+      }
+
+  -- the sums of all times, in the cells
+  module _ (cells : List ℕ) (enough : length xs * B ≤ length cells) where
+    pub used-room : length used * B ≤ length cells
+    used-room = rw count-used enough
+
+    abbrev sums : List ℕ
+    sums = partSums ch used w R (top + 1) cells
+
+    -- in as many blocks as there are X
+    spread : sums ≡ blocks B (length xs) (λ k. partSum ch (rowFrom w k) R (min (top + 1) (getD used k 0 + 1))) cells
+    unfolding partSums
+    spread = ap (λ (n : ℕ). blocks B n (λ k. partSum ch (rowFrom w k) R (min (top + 1) (getD used k 0 + 1))) cells) count-used
+
+    -- each is A
+    sum-is : (k e : ℕ) → k < length xs → e < B → getD sums (k * B + e) 0 ≡ weighted (getD xs k 0) (λ n. U ch n (e % R + 1) (e / R)) (levelOf xs ε k)
+    unfolding partSum weighted
+    sum-is k e hk he =
+        let used-k : k < length used = omega (arith, hk, count-used) in
+        let terms : min (top + 1) (getD used k 0 + 1) ≡ suc (levelOf xs ε k) = omega (arith, level-in k hk, topmost .above k used-k) in
+        sums-at ch used w R cells used-room (top + 1) k e used-k he
+        ∙ ap (λ (n : ℕ). partSum ch (rowFrom w k) R n e) terms
+        ∙ sum-same (suc (levelOf xs ε k)) (λ j. term (getD (rowFrom w k) j 0) (U ch j (e % R + 1) (e / R))) (λ j. term (weight (getD xs k 0) j) (U ch j (e % R + 1) (e / R)))
+        (λ j b. ap (λ (v : ℕ). term v (U ch j (e % R + 1) (e / R))) (t .rows k hk j (omega arith)))
+
+    sum-max : (k e : ℕ) → e < B → weighted (getD xs k 0) (λ n. U ch n (e % R + 1) (e / R)) (levelOf xs ε k) ≤ totalOf xs ε k
+    sum-max k e he =
+        weighted-max (getD xs k 0) (levelOf xs ε k) (λ n. U ch n (e % R + 1) (e / R))
+        (λ n h. U-bound ch (g .ready .stochastic) n (e % R + 1) (e / R) (state-of-cell e (z .states) R he))
+
+    -- they may be divided by S(N), of which the totals hold one for each X
+    module _ (many : length xs ≤ length totals) where
+      count-totals : length (take (length xs) totals) ≡ length xs
+      count-totals = length-take-le (length xs) totals many
+
+      total-in : (k : ℕ) → k < length xs → getD (take (length xs) totals) k 0 ≡ totalOf xs ε k
+      total-in k h = getD-take (length xs) totals k 0 h ∙ t .are-totals k h
+
+      pub divisible : (a : List ℕ) → a ≡ sums → AllDivisible a (take (length xs) totals) B
+      divisible a ea =
+          rw ea
+          (record {
+            enough = rw count-totals (omega (arith, enough, length-sums ch used w R cells used-room (top + 1)));
+            count-max = omega (arith, count-totals, g .truncatable .count-max);
+            size-max = count-max (z .states) R (g .ready .rewards .states-max) (g .highest-max);
+            total-pos = λ k h. let b : k < length xs = omega (arith, h, count-totals) in omega (arith, total-in k b, weightSum-min (getD xs k 0) (levelOf xs ε k) (level-mode (getD xs k 0) ε (g .truncatable .jumps-max k b) (g .truncatable .tolerance-pos)));
+            total-max = λ k h. let b : k < length xs = omega (arith, h, count-totals) in omega (arith, total-in k b, weightSum-max (getD xs k 0) (levelOf xs ε k), level-short k b);
+            below = λ k e h he. let b : k < length xs = omega (arith, h, count-totals) in omega (arith, sum-is k e b he, sum-max k e he, total-in k b);
+          })
+
+      -- and their quotients are the cells' means
+      pub means-are : (a : List ℕ) → a ≡ sums → blocks B (length (take (length xs) totals)) (λ k e. lastQuotient (getD a (k * B + e) 0) (getD (take (length xs) totals) k 0)) a ≡ blocks B (length xs) (meansOf ch xs ε R) cells
+      unfolding cellMean weightedMean
+      means-are a ea =
+          rw count-totals
+          (blocks-again B 0 (length xs) _ _ cells a enough (ea ∙ spread)
+          ∙ blocks-same B (length xs) _ (meansOf ch xs ε R) cells (λ k e hk he. ap₂ lastQuotient (ap (λ (l : List ℕ). getD l (k * B + e) 0) ea ∙ sum-is k e hk he) (total-in k hk)))
