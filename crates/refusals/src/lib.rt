@@ -1,15 +1,17 @@
-// What stops a file: the table's rows in its order, cut into the parts that the calls share.
+// What stops a file, lent with a list of times or without one: the table's rows in its order, cut into the
+// parts that the calls share.
 //
 // A file is a slice of any length, and nothing is asked of it. One that is accepted is framed (`Framed` in
 // the crate laws), so that the crate reader can read what it states.
 ghost use mathlib.Core.Path.{_≡_};
 ghost use mathlib.Core.Bool.{_||_};
 ghost use mathlib.Core.List.{_++_};
-ghost use Prim.Native.Nat.{_*_, _≤_, _<_, _^_};
+ghost use Prim.Native.Nat.{_-_, _*_, _≤_, _<_, _^_};
 ghost use lib.Dec.{eqb, ltb};
-ghost use Rattle.definitions.specs.File.{stateCount, highestMoment, timeField};
+ghost use lib.ListN.{length};
+ghost use Rattle.definitions.specs.File.{highestMoment};
 ghost use Rattle.definitions.specs.Chain.{modelOf, uniformRate};
-ghost use Rattle.definitions.specs.Rules.{framing, quantities, tooManyJumps, jumps, room, firstHeld, judgedBy, judgement, verdict};
+ghost use Rattle.definitions.specs.Rules.{framing, startsAtZero, quantities, fallsUpTo, listing, lastTime, tooManyJumps, jumps, room, blockSize, firstHeld, judgedBy, judgement, seriesJudgement, verdict};
 ghost use Rattle.laws.specs.Acceptance.{Framed};
 ghost use Rattle.refusals.specs.Rated.{ratedAs};
 use definitions::Judgement;
@@ -29,6 +31,8 @@ const MOST_REWARD: u64 = 1_000_000;
 const MOST_ROW_SUM: u64 = 10_000_000;
 
 const MOST_JUMPS: u64 = 256_000_000;
+
+pub const MOST_TIMES: u64 = 8;
 
 fn outside(x: u64, most: u64) -> bool
     ensures { λ r. ⌜ r ≡ (eqb x 0 || ltb most x) ⌝ }
@@ -70,15 +74,28 @@ pub enum Rated {
     Refused(u8),
 }
 
+// Whether a list of times starts with 0. One without a time does not.
+fn starts_at_zero(times: &[u32]) -> bool
+    ensures { λ r. ⌜ r ≡ startsAtZero (now (times .entry)) ⌝ }
+{
+    if times.len() == 0 {
+        return false;
+    }
+    times[0] == 0
+}
+
 // Rows 7 to 11: the quantities. Some row sum is above its limit just where E is.
-fn judge_quantities(file: &[u8]) -> Rated
+fn judge_quantities(file: &[u8], times: &[u32]) -> Rated
     requires { ⌜ Framed (now file) ⌝ }
-    ensures { λ r. ⌜ ratedAs r ≡ firstHeld (quantities (now (file .entry))) (uniformRate (modelOf (now (file .entry)))) ⌝ }
+    ensures { λ r. ⌜ ratedAs r ≡ firstHeld (quantities (now (file .entry)) (now (times .entry))) (uniformRate (modelOf (now (file .entry)))) ⌝ }
 {
     if outside(reader::tolerance(file), MOST_TOLERANCE) {
         return Rated::Refused(7);
     }
     if reader::time(file) == 0 {
+        return Rated::Refused(8);
+    }
+    if starts_at_zero(times) {
         return Rated::Refused(8);
     }
     let most = reader::max_reward(file);
@@ -96,14 +113,14 @@ fn judge_quantities(file: &[u8]) -> Rated
     Rated::Rate(rate)
 }
 
-// Rows 1 to 11.
-pub fn judge_model(file: &[u8]) -> Rated
-    ensures { λ r. ⌜ ratedAs r ≡ firstHeld (framing (now (file .entry)) ++ quantities (now (file .entry))) (uniformRate (modelOf (now (file .entry)))) ⌝ }
+// Rows 1 to 11, of a file lent with a list of times. A call without one lends an empty list.
+pub fn judge_model(file: &[u8], times: &[u32]) -> Rated
+    ensures { λ r. ⌜ ratedAs r ≡ firstHeld (framing (now (file .entry)) ++ quantities (now (file .entry)) (now (times .entry))) (uniformRate (modelOf (now (file .entry)))) ⌝ }
 {
     let framing = judge_framing(file);
     match framing {
         Judgement::Refused(k) => Rated::Refused(k),
-        Judgement::Accepted => judge_quantities(file),
+        Judgement::Accepted => judge_quantities(file, times),
     }
 }
 
@@ -115,28 +132,82 @@ pub fn too_many_jumps(rate: u64, time: u64) -> bool
     reader::jump_millionths(rate, time) > MOST_JUMPS
 }
 
-// The number of the first row that holds, for a file lent with so many answer cells; accepted where
-// none does.
-pub fn judge(file: &[u8], cells: usize) -> Judgement
-    ensures { λ r. ⌜ verdict r ≡ judgement (now (file .entry)) cells ⌝ }
+// Rows 12 and 13, for one time and a number of blocks: the jumps, and the room for the moments.
+fn judge_run(file: &[u8], rate: u64, time: u64, blocks: usize, cells: usize) -> Judgement
+    requires { ⌜ Framed (now file) × (highestMoment (now file) ≤ 8) × (rate < 2 ^ 32) × (time < 2 ^ 32) × (blocks ≤ 8) ⌝ }
+    ensures { λ r. ⌜ verdict r ≡ judgedBy (jumps rate time ++ room (blocks * blockSize (now (file .entry))) cells) ⌝ }
 {
-    let model = judge_model(file);
-    match model {
-        Rated::Refused(k) => Judgement::Refused(k),
-        Rated::Rate(rate) => judge_run(file, rate, cells),
-    }
-}
-
-// Rows 12 and 13, for the file's time: the jumps, and the room for the moments.
-fn judge_run(file: &[u8], rate: u64, cells: usize) -> Judgement
-    requires { ⌜ Framed (now file) × (highestMoment (now file) ≤ 8) × (rate < 2 ^ 32) ⌝ }
-    ensures { λ r. ⌜ verdict r ≡ judgedBy (jumps rate (timeField (now (file .entry))) ++ room (stateCount (now (file .entry)) * highestMoment (now (file .entry))) cells) ⌝ }
-{
-    if too_many_jumps(rate, reader::time(file)) {
+    if too_many_jumps(rate, time) {
         return Judgement::Refused(12);
     }
-    if cells < reader::state_count(file) * reader::highest_moment(file) {
+    let block = reader::state_count(file) * reader::highest_moment(file);
+    if cells < blocks * block {
         return Judgement::Refused(13);
     }
     Judgement::Accepted
+}
+
+// The number of the first row that holds, for a file lent with so many answer cells; accepted where
+// none does. One block is asked for, at the file's own time.
+pub fn judge(file: &[u8], cells: usize) -> Judgement
+    ensures { λ r. ⌜ verdict r ≡ judgement (now (file .entry)) cells ⌝ }
+{
+    let model = judge_model(file, &[]);
+    match model {
+        Rated::Refused(k) => Judgement::Refused(k),
+        Rated::Rate(rate) => judge_run(file, rate, reader::time(file), 1, cells),
+    }
+}
+
+// Whether some time is not above the one before it.
+fn falls(times: &[u32]) -> bool
+    ensures { λ r. ⌜ r ≡ fallsUpTo (length (now (times .entry)) - 1) (now (times .entry)) ⌝ }
+{
+    for k in 1..times.len() {
+        if times[k] <= times[k - 1] {
+            return true;
+        }
+    }
+    false
+}
+
+fn wide(x: u32) -> u64
+    ensures { λ r. ⌜ (r ≡ x) × (r < 2 ^ 32) ⌝ }
+{
+    x as u64
+}
+
+// Rows 14, 15, 12 and 13: the list of times, then the jumps up to its last one, and the room for a block
+// and a level of each.
+fn judge_times(file: &[u8], rate: u64, times: &[u32], levels: usize, cells: usize) -> Judgement
+    requires { ⌜ Framed (now file) × (highestMoment (now file) ≤ 8) × (rate < 2 ^ 32) ⌝ }
+    ensures { λ r. ⌜ verdict r ≡ judgedBy (listing (now (times .entry)) ++ (jumps rate (lastTime (now (times .entry))) ++ room (length (now (times .entry)) * blockSize (now (file .entry))) cells) ++ room (length (now (times .entry))) levels) ⌝ }
+{
+    let count = times.len();
+    if outside(count as u64, MOST_TIMES) {
+        return Judgement::Refused(14);
+    }
+    if falls(times) {
+        return Judgement::Refused(15);
+    }
+    let run = judge_run(file, rate, wide(times[count - 1]), count, cells);
+    if let Judgement::Refused(k) = run {
+        return Judgement::Refused(k);
+    }
+    if levels < count {
+        return Judgement::Refused(13);
+    }
+    Judgement::Accepted
+}
+
+// The number of the first row that holds, for a file and a list of times lent with so many level cells and
+// answer cells; accepted where none does.
+pub fn judge_series(file: &[u8], times: &[u32], levels: usize, cells: usize) -> Judgement
+    ensures { λ r. ⌜ verdict r ≡ seriesJudgement (now (file .entry)) (now (times .entry)) levels cells ⌝ }
+{
+    let model = judge_model(file, times);
+    match model {
+        Rated::Refused(k) => Judgement::Refused(k),
+        Rated::Rate(rate) => judge_times(file, rate, times, levels, cells),
+    }
 }
