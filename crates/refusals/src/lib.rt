@@ -207,7 +207,7 @@ pub fn judge_series(file: &[u8], times: &[u32], levels: usize, cells: usize) -> 
 {
     let model = judge_model(file, times);
     match model {
-        Rated::Refused(k) => Judgement::Refused(k),
+        Rated::Refused(row) => Judgement::Refused(row),
         Rated::Rate(rate) => judge_times(file, rate, times, levels, cells),
     }
 }

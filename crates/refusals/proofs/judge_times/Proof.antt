@@ -1,8 +1,10 @@
 -- `refusals::judge_times` meets its contract: rows 14 and 15, then the jumps and the room. Assumes nothing.
 use Prim.Native.Nat.{ℕ, _*_, _≤_}
 use mathlib.Core.Path.{_≡_, refl, _∙_, sym, ap}
+use mathlib.Core.Bool.{Bool, false, _||_}
 use mathlib.Core.List.{List, _++_}
 use native.Mathlib.Omega.{arith}
+use lib.Dec.{eqb, ltb}
 use lib.ListN.{length, drop}
 use borrow.Author.Needs.{needs}
 use Rattle.definitions.specs.Rules.{Answer, Rows, listing, lastTime, jumps, room, blockSize, judgedBy, verdict}
@@ -22,6 +24,10 @@ run start = jumps (start .args .rate) (lastTime (times start)) ++ room (length (
 abbrev levels : tie.Start → Rows
 levels start = room (length (times start)) (start .args .levels)
 
+-- row 14
+abbrev wrongCount : List ℕ → Bool
+wrongCount t = eqb (length t) 0 || ltb 8 (length t)
+
 -- the rows past the first k answer
 abbrev Left : tie.Start → ℕ → Type 0
 Left start k = judgedBy (listing (times start) ++ run start ++ levels start) ≡ judgedBy (drop k (listing (times start) ++ run start ++ levels start))
@@ -36,17 +42,20 @@ start15 c = start14 (c .before .before)
 abbrev start-run : tie.After-judge-run → tie.Start
 start-run c = start15 (c .before .before .before)
 
+-- past its test there are 1 to 8 times
+counted : (c : tie.Else1) → wrongCount (times (start14 c)) ≡ false
+counted c = sym (c .before .outside .ensures) ∙ c .if1 .left
+
 past-14 : (c : tie.Else1) → Left (start14 c) 1
 unfolding listing
-past-14 c = row-passes 14 _ _ _ (sym (c .before .outside .ensures) ∙ c .if1 .left)
+past-14 c = row-passes 14 (wrongCount (times (start14 c))) _ _ (counted c)
 
 past-15 : (c : tie.Else2) → Left (start15 c) 2
 unfolding listing
 past-15 c = past-14 (c .before .before) ∙ row-passes 15 _ _ _ (sym (c .before .falls .ensures) ∙ c .if2 .left)
 
--- so there are 1 to 8 times
 count : (c : tie.Else1) → (1 ≤ length (times (start14 c))) × (length (times (start14 c)) ≤ 8)
-count c = in-range (length (times (start14 c))) 8 (sym (c .before .outside .ensures) ∙ c .if1 .left)
+count c = in-range (length (times (start14 c))) 8 (counted c)
 
 -- past the list the run answers, and where it accepts, the levels
 past-list : (c : tie.After-judge-run) →
@@ -63,7 +72,9 @@ past-list c =
 
 returns : tie.Need-returns
 unfolding listing
-returns c = sym (row-stops 14 _ _ _ (sym (c .before .outside .ensures) ∙ c .if1 .taken))
+returns c =
+    let t = times (c .before .before .before .before) in
+    sym (row-stops 14 (wrongCount t) _ _ (sym (c .before .outside .ensures) ∙ c .if1 .taken))
 
 returns-2 : tie.Need-returns-2
 unfolding listing
