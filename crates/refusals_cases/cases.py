@@ -1,9 +1,10 @@
 #!/usr/bin/env python3
-"""Writes stdin and stdout: the files that are judged, and the row that stops each (0: none).
+"""Writes stdin and stdout: the cases that are judged, and the rows that stop each (0: none): the file's
+alone, and the file's with a list of times.
 
-The answers are computed here from document 01's table alone. Where a file is short enough for the
-printed sheet they are also held to the independent reference, which is run as a program; it lends
-512 cells, so row 13 is this page's own.
+The answers are computed here from the table of document 01 and that of S-3 alone. Where a file is short
+enough for the printed sheet its own answer is also held to the independent reference, which is run as a
+program; it lends 512 cells, so row 13 is this page's own, and so is every answer with a list.
 """
 import os
 import random
@@ -37,8 +38,8 @@ def measured(file):
     return put(file, 0, number(len(file) - 2, 2))
 
 
-def row(file, cells):
-    """The first row of the table that holds, or 0."""
+def row(file, cells, times=None, levels=None):
+    """The first row of the table that holds, or 0; with a list of times, of the table of a series."""
     def big(at, width=4):
         return int.from_bytes(file[at:at + width], 'big')
 
@@ -57,7 +58,7 @@ def row(file, cells):
         return 6
     if big(5) == 0 or big(5) > 100_000_000:
         return 7
-    if big(9) == 0:
+    if big(9) == 0 or (times and times[0] == 0):
         return 8
     rewards = [big(13 + 4 * i) for i in range(m)]
     if max(rewards) > 1_000_000:
@@ -68,9 +69,18 @@ def row(file, cells):
     sums = [sum(big(at + 4 * ((m - 1) * i + k)) for k in range(m - 1)) for i in range(m)]
     if max(sums) > 10_000_000:
         return 11
-    if max(1, max(sums)) * big(9) > 256_000_000:
+    last, blocks = big(9), 1
+    if times is not None:
+        if not 1 <= len(times) <= 8:
+            return 14
+        if any(later <= time for time, later in zip(times, times[1:])):
+            return 15
+        last, blocks = times[-1], len(times)
+    if max(1, max(sums)) * last > 256_000_000:
         return 12
-    if cells < m * r:
+    if cells < blocks * m * r:
+        return 13
+    if times is not None and levels < len(times):
         return 13
     return 0
 
@@ -79,11 +89,11 @@ A = bytes.fromhex('000F0101010000271000000001' + '00000005')
 B = bytes.fromhex('001B01020205F5E10000000001' + '0000000100000000000F4240000F4240')
 B_REWARDS, B_RATES = 13, 21
 
-cases = []  # a file and its number of cells
+cases = []  # a file, its number of cells, a list of times and the number of its level cells
 
 
-def add(*files, cells=CELLS):
-    cases.extend((file, cells) for file in files)
+def add(*files, cells=CELLS, times=(1,), levels=8):
+    cases.extend((file, cells, times, levels) for file in files)
 
 
 # the table's small examples, row by row, then A and B
@@ -136,13 +146,48 @@ for at, part in ((4, b'\x09'), (3, b'\x00'), (2, b'\x09'), (0, number(0, 2))):
     add(file, cells=3)
 add(file[:12], cells=3)
 
+# the list: how many times, where it starts, whether it falls, at the first, the last and a middle time
+rising = tuple(range(1, 17))
+for times in ((), rising[:1], rising[:2], rising[:7], rising[:8], rising[:9], rising):
+    add(A, B, times=times)
+for times in ((0,), (0, 1), (0, 0), (0,) + rising[:8], (1, 0), (2, 1), (2, 2), (1, 2, 2), (1, 3, 2), (1, 3, 2, 4), (3, 2, 4)):
+    add(B, times=times)
+for times in (rising[:7] + (7,), rising[:7] + (1,), (1,) + rising[:7], rising[:4] + rising[3:7], rising[::-1], (1,) * 9):
+    add(B, times=times)
+# its last time alone, up to the largest number; the file's time has no part
+for times in ((256,), (257,), (1, 256), (1, 257), (255, 256, 257), (2**31, 2**32 - 1), (2**32 - 1,), (2**32 - 2, 2**32 - 1)):
+    add(B, put(B, 9, number(257)), put(B, 9, number(0)), times=times)
+for times in ((1, 256_000_000), (1, 256_000_001), (256_000_000, 256_000_001), (2**32 - 1, 1)):
+    add(A, times=times)
+add(put(B, B_RATES, number(10_000_000)), times=(24, 25))
+add(put(B, B_RATES, number(10_000_000)), times=(25, 26))
+# its room: the blocks, and the levels
+for count in (1, 2, 8):
+    for cells in (4, 4 * count - 1, 4 * count):
+        for levels in (0, 1, count - 1, count, 2**32 - 1):
+            add(B, cells=cells, times=rising[:count], levels=levels)
+for cells in (4095, 4096):
+    add(put(full, 4, b'\x08'), cells=cells, times=rising[:8])
+
+# the order with a list: each case is held by its row and by later ones
+held = dict(cells=3, levels=0)
+add(B, times=(257,), **held)
+add(B, times=(256, 257, 257), **held)
+add(B, times=(0, 257, 257), **held)
+for times in ((), (300,) * 9, rising[::-1], (0,) * 9):
+    file = put(B, 9, number(257))
+    add(file, put(file, B_RATES, number(10_000_001)), put(file, B_REWARDS, number(0) * 2), put(file, B_REWARDS, number(1_000_001)), times=times, **held)
+    add(put(file, 9, number(0)), put(file, 5, number(0)), file[:-1], b'', times=times, **held)
+
 # bytes changed at random
 random.seed(1)
 for _ in range(150):
     file = random.choice([A, B, model(3, 2, rates=[1, 0, 2, 3, 0, 4])])
     for _ in range(random.choice([1, 1, 2, 3])):
         file = put(file, random.randrange(len(file)), bytes([random.choice([0, 1, 2, 3, random.randrange(256)])]))
-    add(file, cells=random.choice([CELLS, CELLS, CELLS, 2]))
+    times = [random.choice([1, 2, 3, 200, 256, 257, 258, random.randrange(300)]) for _ in range(random.choice([1, 2, 2, 3, 4, 8, 9]))]
+    times = tuple(random.choice([sorted, sorted, list])(times))
+    add(file, cells=random.choice([CELLS, CELLS, CELLS, 2]), times=times, levels=random.choice([8, 8, 8, 2]))
 
 
 def reference(file):
@@ -150,11 +195,12 @@ def reference(file):
     return int(sheet[1]) if sheet[0] == b'refused' else 0
 
 
-for file, cells in cases:
+for file, cells, _, _ in cases:
     if cells == CELLS and len(file) <= SHEET:
         assert row(file, cells) == reference(file), (file.hex(), row(file, cells), reference(file))
 
 with open(os.path.join(HERE, 'stdin'), 'wb') as out:
-    out.write(b''.join(number(len(file)) + number(cells) + file for file, cells in cases))
+    for file, cells, times, levels in cases:
+        out.write(b''.join(map(number, (len(file), cells, levels, len(times), *times))) + file)
 with open(os.path.join(HERE, 'stdout'), 'w') as out:
-    out.writelines(f'{row(file, cells)}\n' for file, cells in cases)
+    out.writelines(f'{row(file, cells)} {row(file, cells, times, levels)}\n' for file, cells, times, levels in cases)

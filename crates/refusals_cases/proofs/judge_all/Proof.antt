@@ -1,7 +1,7 @@
--- `refusals_cases::judge_all` is safe and ends: each turn takes at least the eight bytes before a file. Assumes nothing.
+-- `refusals_cases::judge_all` is safe and ends: each turn takes at least the sixteen bytes before a case. Assumes nothing.
 use Prim.Native.Nat.{_≤_, _-_}
 use native.Mathlib.Omega.{arith}
-use lib.ListN.{length}
+use lib.ListN.{length, length-take}
 use borrow.Author.Needs.{needs}
 use Rattle.refusals_cases.proofs.judge_all.Statement.{statement}
 use Rattle.refusals_cases.proofs.judge_all.Tie as tie
@@ -24,13 +24,24 @@ judge-all-spec =
     (λ c. omega arith)
     (λ c κs. omega arith)
     (λ c. omega arith)
+    (λ c κs. omega arith)
+    (λ c. omega arith)
+    (λ c κs. omega arith)
     (λ c. omega arith)
     (λ c. search needs)
     (λ c. omega arith)
     (λ c. omega arith)
     (λ c. omega arith)
-    (λ c. omega arith)
+    (λ c. search needs)
     (λ c κs. search needs)
+    (λ c. omega arith)
+    (λ c. omega arith)
+    (λ c. omega arith)
+    (λ c. omega arith)
+    (λ c. omega arith)
+    (λ c. omega arith)
+    (λ c. omega arith)
+    (λ c. simp length-take (omega arith))
     (λ c κs. search needs)
     (λ c. omega arith)
     (λ c. omega arith)
