@@ -1,13 +1,14 @@
 -- What acceptance tells of a file.
-use Prim.Native.Nat.{ℕ, _+_, _*_, _-_, _≤_, _<_}
+use Prim.Native.Nat.{ℕ, zero, suc, _+_, _*_, _-_, _≤_, _<_}
 use native.Mathlib.Omega.{arith}
-use native.Mathlib.Nat.{mul-pos, mul-le-mul-left}
+use native.Mathlib.Nat.{le-refl, mul-pos, mul-le-mul-left}
+use native.Mathlib.Decide.{ℕ-discrete}
 use mathlib.Core.Path.{_≡_, refl, sym, _∙_, ap}
 use mathlib.Core.Bool.{Bool, true, false, not, _||_}
 use mathlib.Core.List.{List, [], _∷_, _++_, append-assoc}
 use lib.ListN.{length, getD}
 use lib.Dec.{ltb, leb, eqb}
-use borrow.Author.Tests.{ltb-true, ltb-false, eqb-true, eqb-false, not-false}
+use borrow.Author.Tests.{ltb-true, ltb-false, leb-false, eqb-true, eqb-false, not-false}
 use Rattle.definitions.specs.Sums.{largest, anyAbove}
 use Rattle.definitions.specs.File.{lengthField, stateCount, highestMoment, toleranceField, timeField, rewardField}
 use Rattle.definitions.specs.Chain.{Model, modelOf, atTime, rowSum, uniformRate, maxReward, jumpMillionths, chainOf}
@@ -169,6 +170,100 @@ accepted-file s cells passed =
       framed = framed-by s (to11 .0);
       limits = limits-by s [] (timeField s) (to11 .0) (to11 .1) (times-by s [] (to11 .1) .0) (ltb-false 256000000 (uniformRate (modelOf s) * timeField s) (to12 .1 .0));
       room = ltb-false cells (stateCount s * highestMoment s) (last .1 .0);
+    }
+
+-- row 15: up to time n each time is above the one before it, and so none is above a later one
+rises : (n : ℕ) (times : List ℕ) → fallsUpTo n times ≡ false → (k : ℕ) → k < n → getD times k 0 < getD times (suc k) 0
+unfolding fallsUpTo
+rises zero times h k b = absurd (omega arith)
+rises (suc n) times h k b =
+    let both = neither (fallsUpTo n times) (leb (getD times (suc n) 0) (getD times n 0)) h in
+    elim (ℕ-discrete k n) [
+      | yes e ↦ rw e (leb-false (getD times (suc n) 0) (getD times n 0) (both .1))
+      | no ne ↦ rises n times (both .0) k (omega arith)
+    ]
+
+pub in-order : (n : ℕ) (times : List ℕ) → fallsUpTo n times ≡ false → (j k : ℕ) → j ≤ k → k ≤ n → getD times j 0 ≤ getD times k 0
+in-order n times h j zero low high = ap-le (omega arith)
+  where
+    ap-le : j ≡ 0 → getD times j 0 ≤ getD times 0 0
+    ap-le e = rw e (le-refl (getD times 0 0))
+in-order n times h j (suc k) low high =
+    elim (ℕ-discrete j (suc k)) [
+      | yes e ↦ rw e (le-refl (getD times (suc k) 0))
+      | no ne ↦ omega (arith, in-order n times h j k (omega arith) (omega arith), rises n times h k (omega arith))
+    ]
+
+-- row 8 of a list that has a time
+first-time : (times : List ℕ) → startsAtZero times ≡ false → 1 ≤ length times → 1 ≤ getD times 0 0
+first-time [] h some = absurd (omega arith)
+first-time (first ∷ later) h some = let nonzero : first ≡ 0 → ⊥ = eqb-false first 0 h in omega (arith, nonzero)
+
+-- what acceptance tells of a file and a list of times, lent with a number of level cells and of block cells
+pub record AcceptedSeries (s times : List ℕ) (levels cells : ℕ) : Type 0 where
+  pub framed : Framed s
+  pub count-min : 1 ≤ length times
+  pub count-max : length times ≤ 8
+  pub limits : (k : ℕ) → k < length times → WithinLimits (modelAt s times k)
+  pub block-room : length times * blockSize s ≤ cells
+  pub level-room : length times ≤ levels
+
+-- no row of the series' table holds, part by part
+pub record SeriesRows (s times : List ℕ) (levels cells : ℕ) : Type 0 where
+  pub frame : NoneHold (framing s)
+  pub amounts : NoneHold (quantities s times)
+  pub list : NoneHold (listing times)
+  pub last : NoneHold (jumps (uniformRate (modelOf s)) (lastTime times))
+  pub for-blocks : NoneHold (room (length times * blockSize s) cells)
+  pub for-levels : NoneHold (room (length times) levels)
+
+pub series-rows : (s times : List ℕ) (levels cells : ℕ) → seriesJudgement s times levels cells ≡ accepted tt → SeriesRows s times levels cells
+unfolding seriesJudgement seriesRows
+series-rows s times levels cells passed =
+    let X : Rows = jumps (uniformRate (modelOf s)) (lastTime times) in
+    let C : Rows = room (length times * blockSize s) cells in
+    let N : Rows = room (length times) levels in
+    let L : Rows = listing times in
+    let Q : Rows = quantities s times in
+    let to13 = none-in-parts (framing s ++ Q ++ L ++ X ++ C) N (none-hold (seriesRows s times levels cells) (tt {0}) tt passed) in
+    let to12 = none-in-parts (framing s ++ Q ++ L ++ X) C (to13 .0) in
+    let to15 = none-in-parts (framing s ++ Q ++ L) X (to12 .0) in
+    let to11 = none-in-parts (framing s ++ Q) L (to15 .0) in
+    let to6 = none-in-parts (framing s) Q (to11 .0) in
+    record { frame = to6 .0; amounts = to6 .1; list = to11 .1; last = to15 .1; for-blocks = to12 .1; for-levels = to13 .1 }
+
+-- each time is at least 1, and E × T is within its limit
+pub time-within : (s times : List ℕ) (levels cells : ℕ) → SeriesRows s times levels cells → (k : ℕ) → k < length times → (1 ≤ getD times k 0) × (uniformRate (modelOf s) * getD times k 0 ≤ 256000000)
+unfolding listing jumps
+time-within s times levels cells none k h =
+    let order = none .list .1 .0 in
+    let low = in-order (length times - 1) times order 0 k (omega arith) (omega arith) in
+    let high = in-order (length times - 1) times order k (length times - 1) (omega arith) (omega arith) in
+    (omega (arith, low, first-time times (times-by s times (none .amounts) .1) (omega arith)), omega (arith, mul-le-mul-left (uniformRate (modelOf s)) high, ltb-false 256000000 (uniformRate (modelOf s) * lastTime times) (none .last .0)))
+
+pub accepted-series : (s times : List ℕ) (levels cells : ℕ) → seriesJudgement s times levels cells ≡ accepted tt → AcceptedSeries s times levels cells
+accepted-series s times levels cells passed =
+    let none = series-rows s times levels cells passed in
+    let count : (1 ≤ length times) × (length times ≤ 8) = unfold listing in in-range (length times) 8 (none .list .0) in
+    record {
+      framed = framed-by s (none .frame);
+      count-min = count .0;
+      count-max = count .1;
+      limits = λ k h. let time = time-within s times levels cells none k h in limits-by s times (getD times k 0) (none .frame) (none .amounts) (time .0) (time .1);
+      block-room = unfold room in ltb-false cells (length times * blockSize s) (none .for-blocks .0);
+      level-room = unfold room in ltb-false levels (length times) (none .for-levels .0);
+    }
+
+-- the file's own time is a list of one
+pub one-time : (s : List ℕ) (cells : ℕ) → AcceptedFile s cells → AcceptedSeries s (timeField s ∷ []) 1 cells
+one-time s cells f =
+    record {
+      framed = f .framed;
+      count-min = omega arith;
+      count-max = omega arith;
+      limits = λ k h. let first : k ≡ 0 = omega arith in rw first (f .limits);
+      block-room = omega (arith, f .room);
+      level-room = omega arith;
     }
 
 -- the chain of a model is one that the recurrence stays in range on

@@ -18,3 +18,4 @@ pub mod TailBound
 pub mod AverageBound
 pub mod MomentLaws
 pub mod Demand3
+pub mod SeriesLaws

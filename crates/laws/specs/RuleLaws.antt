@@ -79,3 +79,14 @@ accepted-value (row ∷ later) a b h = accepted-value later a b (rw (none-hold (
 pub none-in-parts : (t u : Rows) → NoneHold (t ++ u) → NoneHold t × NoneHold u
 none-in-parts [] u h = (tt, h)
 none-in-parts (row ∷ later) u h = let rest = none-in-parts later u (h .1) in ((h .0, rest .0), rest .1)
+
+-- where no row of a table holds, it accepts
+pub all-pass : {A : Type 0} (t : Rows) (a : A) → NoneHold t → firstHeld t a ≡ accepted a
+unfolding firstHeld
+all-pass [] a h = refl
+all-pass (row ∷ later) a h = rw (h .0) (all-pass later a (h .1))
+
+-- none of either is none of both
+pub none-together : (t u : Rows) → NoneHold t → NoneHold u → NoneHold (t ++ u)
+none-together [] u h k = k
+none-together (row ∷ later) u h k = (h .0, none-together later u (h .1) k)
