@@ -1,9 +1,9 @@
 -- Document 02, S-3: each level and each block of a series is that of a run of the file with that time alone, and demand 3 holds of it.
 use Prim.Native.Nat.{ℕ, zero, suc, _+_, _*_, _-_, _/_, _%_, _≤_, _<_, _^_}
 use native.Mathlib.Omega.{arith}
-use native.Mathlib.Nat.{le-refl}
-use mathlib.Core.Path.{_≡_, refl, sym, _∙_, ap, ap₂}
-use mathlib.Core.Bool.{Bool, false, _||_}
+use native.Mathlib.Nat.{le-refl, mul-le-mul-right}
+use mathlib.Core.Path.{_≡_, refl, sym, _∙_, ap, ap₂, subst}
+use mathlib.Core.Bool.{false, not, _||_}
 use mathlib.Core.List.{List, [], _∷_, _++_}
 use lib.Dec.{ltb, eqb}
 use lib.ListN.{length, getD, take, drop, set, length-set, length-drop}
@@ -15,12 +15,13 @@ use Rattle.definitions.specs.File.{lengthField, version, stateCount, highestMom
 use Rattle.definitions.specs.Chain.{Model, modelOf, atTime, jumpRate, rowSum, uniformRate}
 use Rattle.definitions.specs.Rules.{accepted, Rows, framing, quantities, jumps, room, blockSize, rows, firstHeld, judgement, seriesJudgement}
 use Rattle.definitions.specs.Moment.{cell, modelLevel, outcome, cellsAfter}
+use Rattle.definitions.specs.Promise.{Promise}
 use Rattle.definitions.specs.Series.{modelAt, levelAt, levelsAfter, blocksAfter, block, SeriesPromised}
 use Rattle.laws.specs.Rounding.{quotient-remainder, remainder-below}
 use Rattle.laws.specs.RuleLaws.{NoneHold, all-pass, none-together}
 use Rattle.laws.specs.ListLaws.{getD-over}
 use Rattle.laws.specs.BlockLaws.{block-end, block-is}
-use Rattle.laws.specs.ChainLaws.{rate-at}
+use Rattle.laws.specs.ChainLaws.{rate-at, rate-pos}
 use Rattle.laws.specs.Acceptance.{AcceptedSeries, SeriesRows, series-rows, time-within, accepted-series}
 use Rattle.laws.specs.MomentLaws.{outcome-accepted}
 use Rattle.laws.specs.Demand3.{demand3}
@@ -112,3 +113,98 @@ module _ (s : List ℕ) (T : ℕ) (header : 13 ≤ length s) where
   unfolding framing
   framing-with =
       rw (length-with, states-with, highest-with, number-before 2 0 (omega arith), byte-before 2 (omega arith)) refl
+
+-- rows 7 to 11 without a list, of the model alone
+modelRows : Model → Rows
+modelRows m =
+    (7, eqb (m .tolerance) 0 || ltb 100000000 (m .tolerance))
+    ∷ (8, eqb (m .time) 0 || false)
+    ∷ (9, anyAbove 1000000 (m .states) (m .reward))
+    ∷ (10, not (anyAbove 0 (m .states) (m .reward)))
+    ∷ (11, anyAbove 10000000 (m .states) (rowSum m))
+    ∷ []
+
+quantities-model : (s : List ℕ) → quantities s [] ≡ modelRows (modelOf s)
+unfolding quantities modelRows
+quantities-model s = refl
+
+-- they pass with any time but 0, where they pass with the file's
+quantities-at : (s times : List ℕ) (T : ℕ) → NoneHold (quantities s times) → 1 ≤ T → NoneHold (modelRows (atTime (modelOf s) T))
+unfolding quantities modelRows jumpRate rowSum
+quantities-at s times T row low = (row .0, (rw (ne-eqb T 0 (λ e. omega arith)) refl, row .1 .1))
+
+module _ (s times : List ℕ) (levels cells : ℕ) (none : SeriesRows s times levels cells) (f : AcceptedSeries s times levels cells) (k : ℕ) (h : k < length times) where
+  abbrev T : ℕ
+  T = getD times k 0
+
+  -- the file with time k
+  abbrev run : List ℕ
+  run = withTime s T
+
+  header : 13 ≤ length s
+  header = omega (arith, f .framed .size)
+
+  within : (1 ≤ T) × (uniformRate (modelOf s) * T ≤ 256000000)
+  within = time-within s times levels cells none k h
+
+  T-max : T < 2 ^ 32
+  T-max = omega (arith, within .1, mul-le-mul-right T (rate-pos (modelOf s)))
+
+  pub model-run : modelOf run ≡ modelAt s times k
+  model-run = model-with s T header T-max
+
+  few : uniformRate (modelOf run) * timeField run ≤ 256000000
+  few = subst (λ (m : Model). uniformRate m * m .time ≤ 256000000) (sym model-run) (rw (rate-at (modelOf s) T) (within .1))
+
+  -- is accepted with the cells of a block
+  pub run-accepted : judgement run (blockSize s) ≡ accepted tt
+  unfolding judgement rows jumps room
+  run-accepted =
+      all-pass (rows run (blockSize s)) tt
+      (none-together (framing run ++ quantities run [] ++ jumps (uniformRate (modelOf run)) (timeField run)) (room (blockSize run) (blockSize s))
+      (none-together (framing run ++ quantities run []) (jumps (uniformRate (modelOf run)) (timeField run))
+      (none-together (framing run) (quantities run []) (rw (framing-with s T header) (none .frame)) (rw (quantities-model run, model-run) (quantities-at s times T (none .amounts) (within .0))))
+      (le-ltb 256000000 (uniformRate (modelOf run) * timeField run) few, tt))
+      (le-ltb (blockSize s) (blockSize run) (rw (states-with s T header, highest-with s T header) (le-refl (blockSize s))), tt))
+
+-- document 02's sentence: level k and block k equal a run of the file with time k alone, lent the cells of block k
+pub record SameAsRun (s times levels cells : List ℕ) (k : ℕ) : Type 0 where
+  pub same-level : outcome (withTime s (getD times k 0)) (blockSize s) ≡ accepted (getD (levelsAfter (accepted tt) s times levels) k 0)
+  pub same-block : cellsAfter (outcome (withTime s (getD times k 0)) (blockSize s)) (withTime s (getD times k 0)) (block s cells k) ≡ block s (blocksAfter (accepted tt) s times cells) k
+
+module _ (s times levels cells : List ℕ) (passed : seriesJudgement s times (length levels) (length cells) ≡ accepted tt) (k : ℕ) (h : k < length times) where
+  f : AcceptedSeries s times (length levels) (length cells)
+  f = accepted-series s times (length levels) (length cells) passed
+
+  judged : judgement (withTime s (getD times k 0)) (blockSize s) ≡ accepted tt
+  judged = run-accepted s times (length levels) (length cells) (series-rows s times (length levels) (length cells) passed) f k h
+
+  is-model : modelOf (withTime s (getD times k 0)) ≡ modelAt s times k
+  is-model = model-run s times (length levels) (length cells) (series-rows s times (length levels) (length cells) passed) f k h
+
+  -- level k of the series
+  level-in : getD (levelsAfter (accepted tt) s times levels) k 0 ≡ modelLevel (modelOf (withTime s (getD times k 0)))
+  unfolding levelsAfter levelAt
+  level-in = getD-over 0 (length times) (levelAt s times) levels k h ∙ ap modelLevel (sym is-model)
+
+  -- block k of the series
+  block-in : block s (blocksAfter (accepted tt) s times cells) k ≡ cellsAfter (accepted (modelLevel (modelOf (withTime s (getD times k 0))))) (withTime s (getD times k 0)) (block s cells k)
+  unfolding blocksAfter cellsAfter levelAt
+  block-in =
+      block-is (blockSize s) 0 (length times) (λ j. cell (modelAt s times j) (levelAt s times j)) cells k h (f .block-room)
+      ∙ ap (λ (m : Model). over (m .states * m .highest) (cell m (modelLevel m)) (block s cells k)) (sym is-model)
+
+  pub same-as-run : SameAsRun s times levels cells k
+  same-as-run =
+      let answer = outcome-accepted (withTime s (getD times k 0)) (blockSize s) judged in
+      record { same-level = answer ∙ ap accepted (sym level-in); same-block = rw answer (sym block-in) }
+
+  promise : Promise (withTime s (getD times k 0)) (getD (levelsAfter (accepted tt) s times levels) k 0) (block s (blocksAfter (accepted tt) s times cells) k)
+  promise = rw (level-in, block-in) (demand3 (withTime s (getD times k 0)) (block s cells k) (rw size judged))
+    where
+      size : length (block s cells k) ≡ blockSize s
+      size = length-take-le (blockSize s) (drop (k * blockSize s) cells) (omega (arith, f .block-room, block-end k (length times) (blockSize s) h, length-drop (k * blockSize s) cells))
+
+-- demand 3 of every block
+pub series-promised : (s times levels cells : List ℕ) → seriesJudgement s times (length levels) (length cells) ≡ accepted tt → SeriesPromised (accepted tt) s times (levelsAfter (accepted tt) s times levels) (blocksAfter (accepted tt) s times cells)
+series-promised s times levels cells passed k h = promise s times levels cells passed k h
