@@ -1,5 +1,5 @@
-//! The calculation of document 01 with the last division of document 02's S-1, written from the papers alone, in
-//! plain u128 arithmetic.
+//! The calculation of document 01 with the last division of document 02's S-1, for the file's own time or for a list of
+//! times (S-3), written from the papers alone, in plain u128 arithmetic.
 //!
 //! Nothing here was taken from the proved code: not its helper, not its order of work. Every product is
 //! formed whole in 128 bits and divided once, so each line can be read against the paper's sentence.
@@ -14,14 +14,14 @@ const MILLION: u128 = 1_000_000;
 /// Billionths in a whole: the unit of the tolerance.
 const BILLION: u128 = 1_000_000_000;
 
-/// A file that no row of the table holds, taken apart.
+/// A file and its times that no row of the table holds, taken apart.
 struct Model {
     /// R, the highest moment.
     highest: usize,
     /// ε, in billionths.
     tolerance: u128,
-    /// T, in whole hours.
-    time: u128,
+    /// T, in whole hours: the file's own, or each of a list's.
+    times: Vec<u128>,
     /// f, one reward rate for each state.
     rewards: Vec<u128>,
     /// c, row by row, the diagonal filled in: every row sums to E.
@@ -30,13 +30,21 @@ struct Model {
     exit: u128,
 }
 
+impl Model {
+    /// M × R, the cells that one time takes.
+    fn block(&self) -> usize {
+        self.rewards.len() * self.highest
+    }
+}
+
 /// The unsigned big-endian number in `width` bytes from `at`.
 fn number(file: &[u8], at: usize, width: usize) -> u128 {
     file[at..at + width].iter().fold(0, |sum, &byte| sum * 256 + u128::from(byte))
 }
 
-/// The table "What stops a file", row by row; the first row that holds is returned.
-fn read(file: &[u8], cells: usize) -> Result<Model, u8> {
+/// The table "What stops a file", row by row, with the rows that a list of times adds to it; the first row that holds is
+/// returned. `list` is None where the file is calculated for its own time.
+fn read(file: &[u8], list: Option<&[u32]>, levels: usize, cells: usize) -> Result<Model, u8> {
     // 1: fewer than 13 bytes
     if file.len() < 13 {
         return Err(1);
@@ -69,9 +77,9 @@ fn read(file: &[u8], cells: usize) -> Result<Model, u8> {
     if tolerance == 0 || tolerance > 100_000_000 {
         return Err(7);
     }
-    // 8: T is 0
-    let time = number(file, 9, 4);
-    if time == 0 {
+    // 8: T is 0, or the first listed time is
+    let own = number(file, 9, 4);
+    if own == 0 || list.is_some_and(|list| list.first() == Some(&0)) {
         return Err(8);
     }
     // 9: a reward rate above 1,000,000
@@ -104,25 +112,40 @@ fn read(file: &[u8], cells: usize) -> Result<Model, u8> {
         Some(&largest) if largest > 0 => largest,
         _ => 1,
     };
-    // 12: E × T above 256,000,000
-    if exit * time > 256_000_000 {
+    let times = match list {
+        None => vec![own],
+        Some(list) => {
+            // 14: the list has 0 or more than 8 times
+            if list.is_empty() || list.len() > 8 {
+                return Err(14);
+            }
+            // 15: a time is not above the one before it
+            if list.windows(2).any(|pair| pair[1] <= pair[0]) {
+                return Err(15);
+            }
+            list.iter().map(|&time| u128::from(time)).collect()
+        }
+    };
+    // 12: E × T above 256,000,000, for the last time
+    if exit * times[times.len() - 1] > 256_000_000 {
         return Err(12);
-    }
-    // 13: fewer than M × R answer cells
-    if cells < states * highest {
-        return Err(13);
     }
     // c(i,i) is E less row i's sum
     for i in 0..states {
         chain[i][i] = exit - sums[i];
     }
-    Ok(Model { highest, tolerance, time, rewards, chain, exit })
+    let model = Model { highest, tolerance, times, rewards, chain, exit };
+    // 13: fewer level cells than times, or fewer answer cells than M × R for each time
+    if levels < model.times.len() || cells < model.times.len() * model.block() {
+        return Err(13);
+    }
+    Ok(model)
 }
 
-/// The weights w(0) .. w(N) and the level N.
-fn weigh(model: &Model) -> (Vec<u128>, usize) {
+/// The weights w(0) .. w(N) for one time: the last of them is that of the level N.
+fn weigh(model: &Model, time: u128) -> Vec<u128> {
     // X = E × T; m is q = X / 1,000,000 rounded down
-    let x = model.exit * model.time;
+    let x = model.exit * time;
     let m = x / MILLION;
     // leftward from w(m) = 10^15: w(n−1) = w(n) × n × 1,000,000 over X
     let mut weights = vec![PEAK; m as usize + 1];
@@ -138,7 +161,7 @@ fn weigh(model: &Model) -> (Vec<u128>, usize) {
             // t = 1 + (w(n) + n − m) × X over ((n+1) × 1,000,000 − X)
             let t = 1 + (weight + n - m) * x / ((n + 1) * MILLION - x);
             if t <= sum * model.tolerance / BILLION {
-                return (weights, n as usize);
+                return weights;
             }
         }
         // w(n+1) = w(n) × X over ((n+1) × 1,000,000)
@@ -156,24 +179,23 @@ fn last_division(a: u128, s: u128) -> u128 {
     (2 * a * ONE + s) / (2 * s)
 }
 
-/// Judges `file`, and where no row of the table holds fills `cells[(i − 1) × R + (r − 1)]` with the moments,
-/// states counted from 1, and returns the level N. Otherwise returns the row, and leaves the cells alone.
-pub fn calculate(file: &[u8], cells: &mut [u64]) -> Result<u64, u8> {
-    let model = read(file, cells.len())?;
+/// Fills `levels[k]` with the level of time k, and from `cells[k × M × R]` on its moments: moment r of state i in
+/// cell (i − 1) × R + (r − 1) of the block, states counted from 1.
+fn work_out(model: &Model, levels: &mut [u64], cells: &mut [u64]) {
     let states = model.rewards.len();
     // F, the largest reward rate
     let largest = *model.rewards.iter().max().expect("at least one state");
-    let (weights, level) = weigh(&model);
-    let total: u128 = weights.iter().sum();
+    let weights: Vec<Vec<u128>> = model.times.iter().map(|&time| weigh(model, time)).collect();
+    let terms = weights.iter().map(Vec::len).max().expect("at least one time");
 
     // u[r][i] is U(n,r) at i; U(n,0) is ONE everywhere. U(0,r) at i is f(i) × U(0,r−1) at i, over F.
     let mut u = vec![vec![ONE; states]; model.highest + 1];
     for r in 1..=model.highest {
         u[r] = (0..states).map(|i| model.rewards[i] * u[r - 1][i] / largest).collect();
     }
-    // a[r][i] is A, the sum over n of (w(n) × U(n,r) at i over 10^12)
-    let mut a = vec![vec![0; states]; model.highest + 1];
-    for n in 0..=level {
+    // a[k][r][i] is time k's A, the sum over n of (w(n) × U(n,r) at i over 10^12)
+    let mut a = vec![vec![vec![0; states]; model.highest + 1]; model.times.len()];
+    for n in 0..terms {
         if n > 0 {
             for r in 1..=model.highest {
                 // The new vector is whole before it takes the old one's place; u[r − 1] is already U(n,r−1).
@@ -191,18 +213,45 @@ pub fn calculate(file: &[u8], cells: &mut [u64]) -> Result<u64, u8> {
                 u[r] = next;
             }
         }
-        for r in 1..=model.highest {
-            for i in 0..states {
-                a[r][i] += weights[n] * u[r][i] / ONE;
+        for (a, weights) in a.iter_mut().zip(&weights) {
+            // past its own level a time takes no term
+            if n < weights.len() {
+                for r in 1..=model.highest {
+                    for i in 0..states {
+                        a[r][i] += weights[n] * u[r][i] / ONE;
+                    }
+                }
             }
         }
     }
-    // The moment: the final quotient alone is rounded to the nearest.
-    for i in 0..states {
-        for r in 1..=model.highest {
-            let moment = last_division(a[r][i], total);
-            cells[i * model.highest + (r - 1)] = u64::try_from(moment).expect("a moment is at most ONE");
+    for (k, block) in cells.chunks_mut(model.block()).take(model.times.len()).enumerate() {
+        levels[k] = weights[k].len() as u64 - 1;
+        // The moment: the final quotient alone is rounded to the nearest.
+        let total: u128 = weights[k].iter().sum();
+        for i in 0..states {
+            for r in 1..=model.highest {
+                let moment = last_division(a[k][r][i], total);
+                block[i * model.highest + (r - 1)] = u64::try_from(moment).expect("a moment is at most ONE");
+            }
         }
     }
-    Ok(level as u64)
+}
+
+/// Judges `file`, and where no row of the table holds fills `cells[(i − 1) × R + (r − 1)]` with the moments,
+/// states counted from 1, and returns the level N. Otherwise returns the row, and leaves the cells alone.
+pub fn calculate(file: &[u8], cells: &mut [u64]) -> Result<u64, u8> {
+    let mut levels = [0];
+    let model = read(file, None, levels.len(), cells.len())?;
+    work_out(&model, &mut levels, cells);
+    Ok(levels[0])
+}
+
+/// Judges `file` together with the list `times`, and where no row of the table holds fills, for each time in the list's
+/// order, a level and a block of M × R cells, and returns the number of times. Otherwise returns the row, and leaves
+/// the levels and the cells alone.
+#[allow(dead_code)] // not every program that uses this file calls it
+pub fn series(file: &[u8], times: &[u32], levels: &mut [u64], cells: &mut [u64]) -> Result<u64, u8> {
+    let model = read(file, Some(times), levels.len(), cells.len())?;
+    work_out(&model, levels, cells);
+    Ok(times.len() as u64)
 }
