@@ -1,13 +1,18 @@
-//! Compares the proved call, linked from libkuldrepso.a, with an independent u128 calculation, input by input: the
-//! answer and every cell, also those that must stay as they were. `tests/rust/run` builds and runs this.
+//! Compares the proved calls, linked from libkuldrepso.a, with an independent u128 calculation, input by input: the
+//! answer and every element of every lent slice, also those that must stay as they were. `tests/rust/run` builds and
+//! runs this.
 //!
 //!     compare [--seed S] [--count N] [--save DIR] [FILE..]
 
+mod calls;
 mod independent;
+mod lent;
 mod library;
 mod models;
 
-use models::{Chance, Input};
+use calls::{Answer, Case, Outcome};
+use models::{Chance, Input, SeriesInput};
+use std::collections::BTreeMap;
 use std::panic::{catch_unwind, AssertUnwindSafe};
 use std::path::{Path, PathBuf};
 use std::process::exit;
@@ -16,81 +21,76 @@ const A: [u8; 17] = [0, 0x0F, 1, 1, 1, 0, 0, 0x27, 0x10, 0, 0, 0, 1, 0, 0, 0, 5]
 const B: [u8; 29] = [
     0, 0x1B, 1, 2, 2, 5, 0xF5, 0xE1, 0, 0, 0, 0, 1, 0, 0, 0, 1, 0, 0, 0, 0, 0, 0x0F, 0x42, 0x40, 0, 0x0F, 0x42, 0x40,
 ];
+const A_MOMENTS: [u64; 1] = [1_000_000_000_000];
+/// With document 02's S-1.
+const B_MOMENTS: [u64; 4] = [718_750_000_000, 612_500_000_000, 281_250_000_000, 175_000_000_000];
 
-/// Cells before and after the lent ones, which no call may touch.
-const GUARD: usize = 4;
-
-/// What a cell holds before a call: a number of its own, which is no moment.
-fn marker(cell: usize) -> u64 {
-    0xA5A5_0000_0000_0000 | cell as u64
-}
-
-fn marked(cells: usize) -> Vec<u64> {
-    (0..cells + 2 * GUARD).map(marker).collect()
-}
-
-/// What was compared, and how each input ended.
+/// What was compared, and how the inputs ended.
 struct Tally {
     save: PathBuf,
     inputs: usize,
-    levels: usize,
-    /// refusals[k] inputs were refused by row k.
-    refusals: [usize; 14],
+    /// For each call and each end of it, as a row's number: how many inputs came to it.
+    ends: BTreeMap<(&'static str, String), usize>,
 }
 
 impl Tally {
     /// Calls both on one input. On a difference says what differs, saves the file and ends the run.
-    fn compare(&mut self, name: &str, input: &Input) {
-        let mut proved = marked(input.cells);
-        let mut plain = marked(input.cells);
-        let lent = GUARD..GUARD + input.cells;
-        let answer = library::calculate(&input.file, &mut proved[lent.clone()]);
-        let expected =
-            match catch_unwind(AssertUnwindSafe(|| independent::calculate(&input.file, &mut plain[lent.clone()]))) {
-                Ok(expected) => expected,
-                Err(_) => self.stop(name, input, "the independent calculation panicked"),
-            };
-        if answer != expected {
-            self.stop(name, input, &format!("the answer is {answer:?}, and independently {expected:?}"));
-        }
-        if let Some(at) = (0..proved.len()).find(|&at| proved[at] != plain[at]) {
-            let cell = at as isize - GUARD as isize;
-            self.stop(name, input, &format!("cell {cell} holds {}, and independently {}", proved[at], plain[at]));
-        }
-        // Past the moments, and everywhere after a refusal, the cells are as they were.
-        let written = answer.map_or(0, |_| usize::from(input.file[3]) * usize::from(input.file[4]));
-        for (at, &cell) in proved.iter().enumerate() {
-            let moment = lent.contains(&at) && at - GUARD < written;
-            if moment && cell > 1_000_000_000_000 || !moment && cell != marker(at) {
-                self.stop(name, input, &format!("cell {} holds {cell}", at as isize - GUARD as isize));
-            }
-        }
+    fn compare<C: Case>(&mut self, name: &str, input: &C) {
+        let (answer, written) = match catch_unwind(AssertUnwindSafe(|| calls::both(input))) {
+            Ok(Ok(outcome)) => outcome,
+            Ok(Err(what)) => self.stop(name, input, &what),
+            Err(_) => self.stop(name, input, "a panic"),
+        };
         self.inputs += 1;
-        match answer {
-            Ok(_) => self.levels += 1,
-            Err(row) => self.refusals[usize::from(row)] += 1,
+        let end = match answer {
+            Ok(_) => "accepted".to_string(),
+            Err(row) => row.to_string(),
+        };
+        for end in input.ends(answer, &written).into_iter().map(str::to_string).chain([end]) {
+            *self.ends.entry((C::CALL, end)).or_default() += 1;
         }
     }
 
-    fn stop(&self, name: &str, input: &Input, what: &str) -> ! {
+    fn stop<C: Case>(&self, name: &str, input: &C, what: &str) -> ! {
         let file = self.save.join("difference.model");
-        let saved = match std::fs::write(&file, &input.file) {
+        let saved = match std::fs::write(&file, input.file()) {
             Ok(()) => format!("the file is saved as {}", file.display()),
             Err(error) => format!("the file could not be saved: {error}"),
         };
-        println!("rust comparison: input {} ({name}, {} cells): {what}; {saved}", self.inputs + 1, input.cells);
+        let (call, lent) = (C::CALL, input.lent());
+        println!("rust comparison: input {} ({call}, {name}, {lent}): {what}; {saved}", self.inputs + 1);
         exit(1);
     }
 
-    /// The papers' own answer for a file, of both calculations.
-    fn hand_checked(&mut self, name: &str, file: &[u8], cells: usize, answer: Result<u64, u8>, moments: &[u64]) {
-        let input = Input { file: file.to_vec(), cells };
-        let mut held = vec![marker(0); cells];
-        let got = library::calculate(file, &mut held);
-        if got != answer || !held.starts_with(moments) {
-            self.stop(name, &input, &format!("the paper says {answer:?} and {moments:?}, the call {got:?} and {held:?}"));
+    /// The papers' own answer for an input, of both calculations, with what is written to each lent slice.
+    fn hand_checked<C: Case>(&mut self, name: &str, input: &C, answer: Answer, written: &[&[u64]]) {
+        let paper = Outcome { answer, written: Ok(written.iter().map(|words| ("", words.to_vec())).collect()) };
+        match input.run(C::PROVED).compare(&paper, "by the paper") {
+            Ok(()) => self.compare(name, input),
+            Err(what) => self.stop(name, input, &what),
         }
-        self.compare(name, &input);
+    }
+
+    fn count(&self, call: &'static str, end: &str) -> usize {
+        self.ends.get(&(call, end.to_string())).copied().unwrap_or(0)
+    }
+
+    /// Prints how the inputs of a call ended. All its ends must have been reached.
+    fn print<C: Case>(&self, seed: u64) {
+        let count = |end: &str| self.count(C::CALL, end);
+        let rows: Vec<String> = C::ROWS.iter().map(u8::to_string).collect();
+        let refused: Vec<String> = rows.iter().map(|row| format!("{row}: {}", count(row))).collect();
+        let accepted = grouped(count("accepted"));
+        println!("seed {seed}, {}: {accepted} accepted; refused by row {}", C::CALL, refused.join(", "));
+        if !C::ENDS.is_empty() {
+            let ends: Vec<String> = C::ENDS.iter().map(|end| format!("{end}: {}", count(end))).collect();
+            println!("  of them {}", ends.join("; "));
+        }
+        let mut ends = rows.iter().map(String::as_str).chain(C::ENDS.iter().copied()).chain(["accepted"]);
+        if let Some(end) = ends.find(|end| count(end) == 0) {
+            println!("rust comparison: no input of {} came to the end '{end}'", C::CALL);
+            exit(1);
+        }
     }
 }
 
@@ -108,13 +108,9 @@ fn with_byte(file: &[u8], at: usize, byte: u8) -> Vec<u8> {
     file
 }
 
-/// The files of document 01: its examples of the table, and its hand-checked list; B's moments are document 02's, S-1.
-fn papers(tally: &mut Tally) {
-    let b = [718_750_000_000, 612_500_000_000, 281_250_000_000, 175_000_000_000];
-    tally.hand_checked("A", &A, 1, Ok(1), &[1_000_000_000_000]);
-    tally.hand_checked("B", &B, 512, Ok(3), &b);
-    tally.hand_checked("B with 4 cells", &B, 4, Ok(3), &b);
-    let rows: [(&str, Vec<u8>, u8); 16] = [
+/// Document 01's small example of each row from 1 to 11, its hand-checked files that one of these rows stops, and others.
+fn stopped() -> Vec<(&'static str, Vec<u8>, u8)> {
+    vec![
         ("the empty file", vec![], 1),
         ("A without its last byte", A[..16].to_vec(), 2),
         ("A, version 2", with_byte(&A, 2, 2), 3),
@@ -126,26 +122,91 @@ fn papers(tally: &mut Tally) {
         ("A, reward 1,000,001", with(&A, 13, 1_000_001), 9),
         ("A, reward 0", with(&A, 13, 0), 10),
         ("B, first rate 10,000,001", with(&B, 21, 10_000_001), 11),
-        ("B, time 257", with(&B, 9, 257), 12),
         ("B, both rewards 0", with(&B, 13, 0), 10),
         ("B, version 9 and no state", with_byte(&with_byte(&B, 2, 9), 3, 0), 3),
         ("B, tolerance 100,000,001", with(&B, 5, 100_000_001), 7),
         ("B, version 0", with_byte(&B, 2, 0), 3),
-    ];
-    for (name, file, row) in rows {
-        tally.hand_checked(name, &file, 512, Err(row), &[]);
+    ]
+}
+
+/// The files of document 01: its examples of the table, and its hand-checked list.
+fn papers(tally: &mut Tally) {
+    let input = |file: &[u8], cells| Input { file: file.to_vec(), cells };
+    tally.hand_checked("A", &input(&A, 1), Ok(1), &[&A_MOMENTS]);
+    tally.hand_checked("B", &input(&B, 512), Ok(3), &[&B_MOMENTS]);
+    tally.hand_checked("B with 4 cells", &input(&B, 4), Ok(3), &[&B_MOMENTS]);
+    for (name, file, row) in stopped() {
+        tally.hand_checked(name, &input(&file, 512), Err(row), &[&[]]);
     }
-    tally.hand_checked("B with 3 cells", &B, 3, Err(13), &[]);
+    tally.hand_checked("B, time 257", &input(&with(&B, 9, 257), 512), Err(12), &[&[]]);
+    tally.hand_checked("B with 3 cells", &input(&B, 3), Err(13), &[&[]]);
     for (name, file) in [
         ("B, time 256", with(&B, 9, 256)),
         ("B, first rate 10,000,000", with(&B, 21, 10_000_000)),
         ("B, tolerance 1", with(&B, 5, 1)),
     ] {
-        let input = Input { file, cells: 4 };
-        if library::calculate(&input.file, &mut [0; 4]).is_err() {
+        let input = input(&file, 4);
+        if library::calculate(&file, &mut [0; 4]).is_err() {
             tally.stop(name, &input, "the paper accepts it");
         }
         tally.compare(name, &input);
+    }
+}
+
+/// Document 02's S-3 on the same files: each row, and of each two that its order decides between the first.
+fn series_papers(tally: &mut Tally) {
+    let input = |file: &[u8], times: &[u32], levels, cells| SeriesInput {
+        file: file.to_vec(),
+        times: times.to_vec(),
+        levels,
+        cells,
+    };
+    let eight = [1, 2, 3, 4, 5, 6, 7, 8];
+    let nine = [1, 2, 3, 4, 5, 6, 7, 8, 9];
+    tally.hand_checked("A", &input(&A, &[1], 1, 1), Ok(1), &[&[1], &A_MOMENTS]);
+    tally.hand_checked("A, eight times", &input(&A, &eight, 8, 8), Ok(8), &[&[1; 8], &[A_MOMENTS[0]; 8]]);
+    tally.hand_checked("B", &input(&B, &[1], 1, 4), Ok(1), &[&[3], &B_MOMENTS]);
+    tally.hand_checked("B, own time 257", &input(&with(&B, 9, 257), &[1], 9, 99), Ok(1), &[&[3], &B_MOMENTS]);
+    let late = with(&B, 9, u32::MAX);
+    tally.hand_checked("B, own time 2^32 − 1", &input(&late, &[1], 1, 4), Ok(1), &[&[3], &B_MOMENTS]);
+
+    for (name, file, row) in stopped() {
+        for times in [&[1][..], &[], &[0], &nine, &[1, 1], &[u32::MAX]] {
+            // a first time of 0 is row 8
+            let row = if times.first() == Some(&0) { row.min(8) } else { row };
+            for (levels, cells) in [(8, 4_096), (0, 0)] {
+                tally.hand_checked(name, &input(&file, times, levels, cells), Err(row), &[&[], &[]]);
+            }
+        }
+    }
+    let early = with(&B, 9, 0);
+    let rows: [(&str, &[u8], &[u32], usize, usize, u8); 23] = [
+        ("own time 0", &early, &[1], 1, 4, 8),
+        ("own time 0, no time", &early, &[], 1, 4, 8),
+        ("own time 0, nine times", &early, &nine, 9, 36, 8),
+        ("first time 0", &B, &[0], 1, 4, 8),
+        ("first time 0, the others rising", &B, &[0, 1, 2], 3, 12, 8),
+        ("first time 0, nine times", &B, &[0; 9], 9, 36, 8),
+        ("no time", &B, &[], 1, 4, 14),
+        ("no time, no level, no cell", &B, &[], 0, 0, 14),
+        ("nine times", &B, &nine, 9, 36, 14),
+        ("nine equal times", &B, &[1; 9], 9, 36, 14),
+        ("nine times, the last too late", &B, &[1, 2, 3, 4, 5, 6, 7, 8, 257], 9, 36, 14),
+        ("equal times", &B, &[1, 1], 2, 8, 15),
+        ("falling times", &B, &[2, 1], 2, 8, 15),
+        ("a later time 0", &B, &[1, 0], 2, 8, 15),
+        ("eight times, the last equal", &B, &[1, 2, 3, 4, 5, 6, 7, 7], 8, 32, 15),
+        ("equal times, too late", &B, &[257, 257], 2, 8, 15),
+        ("falling to a time in range", &B, &[257, 256], 2, 8, 15),
+        ("one time, too late", &B, &[257], 1, 4, 12),
+        ("the last too late", &B, &[1, 256, 257], 3, 12, 12),
+        ("the last too late, no level, no cell", &B, &[1, u32::MAX], 0, 0, 12),
+        ("too few levels", &B, &[1, 2], 1, 8, 13),
+        ("too few cells", &B, &[1, 2], 2, 7, 13),
+        ("too few of both", &B, &[1, 2], 0, 0, 13),
+    ];
+    for (name, file, times, levels, cells, row) in rows {
+        tally.hand_checked(&format!("B, {name}"), &input(file, times, levels, cells), Err(row), &[&[], &[]]);
     }
 }
 
@@ -174,6 +235,40 @@ fn sweeps(tally: &mut Tally, chance: &mut Chance) {
     tally.compare("65,536 bytes too many", &Input { file, cells: 512 });
 }
 
+/// Every number of times, levels and cells on small files, every time for B, every value of a header byte.
+fn series_sweeps(tally: &mut Tally, chance: &mut Chance) {
+    for file in [&A[..], &B[..]] {
+        let block = usize::from(file[3]) * usize::from(file[4]);
+        for count in 0..=10 {
+            let times = models::rising(chance, count, 256);
+            for levels in 0..=count + 2 {
+                let cells = (0..=count).flat_map(|k| [k * block, k * block + 1, k * block + block - 1]);
+                for cells in cells {
+                    let input = SeriesInput { file: file.to_vec(), times: times.clone(), levels, cells };
+                    tally.compare("every number of levels", &input);
+                }
+            }
+        }
+        for at in 0..13 {
+            for byte in 0..=255 {
+                let file = with_byte(file, at, byte);
+                let input = SeriesInput { file, times: vec![1, 3], levels: 3, cells: 18 };
+                tally.compare(&format!("byte {at} is {byte}"), &input);
+            }
+        }
+        for length in 0..file.len() {
+            let input = SeriesInput { file: file[..length].to_vec(), times: vec![1], levels: 1, cells: 4 };
+            tally.compare(&format!("cut to {length} bytes"), &input);
+        }
+    }
+    for time in 0..=258 {
+        let input = SeriesInput { file: B.to_vec(), times: vec![time], levels: 1, cells: 4 };
+        tally.compare("every time", &input);
+        let times = vec![time, time + 1, time + 2];
+        tally.compare("every time and the next two", &SeriesInput { times, levels: 3, cells: 12, ..input });
+    }
+}
+
 /// Many states: all numbers of states from 8 up, every R among them.
 fn large(tally: &mut Tally, chance: &mut Chance) {
     for states in 8..=64 {
@@ -185,6 +280,38 @@ fn large(tally: &mut Tally, chance: &mut Chance) {
         models::damage(chance, &mut fields, row);
         tally.compare("many states, damaged", &Input { file: fields.bytes(), cells });
     }
+}
+
+/// Lists of 1 to 8 times for many states; the last has 64 states, R = 8 and 8 times.
+fn series_large(tally: &mut Tally, chance: &mut Chance) {
+    for count in 1..=8 {
+        let (states, highest) = (8 + 7 * count as u8, chance.between(1, 8) as u8);
+        tally.compare("many states", &models::whole_series(chance, states, highest, count));
+    }
+    let times = vec![1, 2, 4, 8, 16, 32, 48, 64];
+    let input = SeriesInput { file: models::heaviest(chance).bytes(), times, levels: 8, cells: 8 * 512 };
+    tally.compare("the most of all", &input);
+}
+
+/// The file of that name, with the name.
+fn stored(name: String) -> (String, Vec<u8>) {
+    match std::fs::read(Path::new(&name)) {
+        Ok(file) => (name, file),
+        Err(error) => {
+            println!("rust comparison: {name} cannot be read: {error}");
+            exit(2);
+        }
+    }
+}
+
+/// A file with a list that ends in its own time: an hour, half of the time, an hour less, the time.
+fn up_to_own_time(file: &[u8]) -> SeriesInput {
+    let own = file.get(9..13).map_or(1, |bytes| bytes.iter().fold(0, |sum, &byte| sum << 8 | u32::from(byte)));
+    let mut times = vec![1, own / 2, own.saturating_sub(1), own];
+    times.retain(|&time| time > 0);
+    times.sort();
+    times.dedup();
+    SeriesInput { file: file.to_vec(), times, levels: 4, cells: 4 * 512 }
 }
 
 /// 1234567 as 1,234,567.
@@ -203,7 +330,7 @@ fn grouped(number: usize) -> String {
 fn main() {
     let mut seed = 1869;
     let mut count = 20_000;
-    let mut tally = Tally { save: PathBuf::from("."), inputs: 0, levels: 0, refusals: [0; 14] };
+    let mut tally = Tally { save: PathBuf::from("."), inputs: 0, ends: BTreeMap::new() };
     let mut files = Vec::new();
     let mut words = std::env::args().skip(1);
     while let Some(word) = words.next() {
@@ -217,14 +344,9 @@ fn main() {
     }
 
     papers(&mut tally);
-    for file in &files {
-        match std::fs::read(Path::new(file)) {
-            Ok(bytes) => tally.compare(file, &Input { file: bytes, cells: 512 }),
-            Err(error) => {
-                println!("rust comparison: {file} cannot be read: {error}");
-                exit(2);
-            }
-        }
+    let files: Vec<(String, Vec<u8>)> = files.into_iter().map(stored).collect();
+    for (name, file) in &files {
+        tally.compare(name, &Input { file: file.clone(), cells: 512 });
     }
     let mut chance = Chance::new(seed);
     sweeps(&mut tally, &mut chance);
@@ -242,13 +364,23 @@ fn main() {
         tally.compare(&format!("seed {seed}, half tick {k}"), &input);
     }
 
-    let rows: Vec<String> = (1..=13).map(|k| format!("{k}: {}", tally.refusals[k])).collect();
-    println!("seed {seed}: {} accepted; refused by row {}", grouped(tally.levels), rows.join(", "));
-    if let Some(k) = (1..=13).find(|&k| tally.refusals[k] == 0) {
-        println!("rust comparison: no input was refused by row {k}");
-        exit(1);
+    let of_calculate = tally.inputs;
+
+    series_papers(&mut tally);
+    for (name, file) in &files {
+        tally.compare(name, &up_to_own_time(file));
     }
-    println!("rust comparison: {} inputs, all equal", grouped(tally.inputs));
+    series_sweeps(&mut tally, &mut chance);
+    series_large(&mut tally, &mut chance);
+    for k in 0..count {
+        let input = models::series(&mut chance, k);
+        tally.compare(&format!("seed {seed}, list {k}"), &input);
+    }
+
+    tally.print::<Input>(seed);
+    tally.print::<SeriesInput>(seed);
+    let lists = grouped(tally.inputs - of_calculate);
+    println!("rust comparison: {} inputs, {lists} of them with a list of times, all equal", grouped(tally.inputs));
 }
 
 fn usage(word: &str) -> ! {

@@ -1,4 +1,6 @@
-//! Inputs from a seed: model files, whole and damaged, each with a number of answer cells.
+//! Inputs from a seed: model files, whole and damaged, each with a number of answer cells; and lists of times for them.
+
+use std::collections::BTreeSet;
 
 /// A generator of numbers (SplitMix64): the same seed gives the same inputs on every machine.
 pub struct Chance(u64);
@@ -91,6 +93,24 @@ pub struct Input {
     pub cells: usize,
 }
 
+/// One input with a list of times: also how many levels are lent.
+#[derive(Clone)]
+pub struct SeriesInput {
+    pub file: Vec<u8>,
+    pub times: Vec<u32>,
+    pub levels: usize,
+    pub cells: usize,
+}
+
+impl SeriesInput {
+    /// The file with another time, bytes 9 to 12.
+    pub fn with_time(&self, time: u32) -> Vec<u8> {
+        let mut file = self.file.clone();
+        file[9..13].copy_from_slice(&time.to_be_bytes());
+        file
+    }
+}
+
 /// A model that is accepted. Row sums reach up to `exit` and the time is such that E × T is at most 256,000,000.
 pub fn accepted(chance: &mut Chance, states: u8, highest: u8) -> Fields {
     let width = usize::from(states) - 1;
@@ -162,13 +182,17 @@ fn reward(chance: &mut Chance) -> u32 {
 
 /// A number of cells for a file of `states` and `highest`: about M × R, often at the border of row 13.
 pub fn cells(chance: &mut Chance, states: u8, highest: u8) -> usize {
-    let needed = usize::from(states) * usize::from(highest);
+    about(chance, usize::from(states) * usize::from(highest), 512)
+}
+
+/// A number about `needed`, often at the border where it is too low. `most` is what is enough for every input.
+fn about(chance: &mut Chance, needed: usize, most: usize) -> usize {
     match chance.between(0, 9) {
         0 => 0,
-        1 => needed - 1,
-        2 => chance.index(needed),
+        1 => needed.saturating_sub(1),
+        2 => chance.index(needed.max(1)),
         3 => needed + 1,
-        4 => 512,
+        4 => most,
         5 => needed + chance.index(40),
         _ => needed,
     }
@@ -217,8 +241,8 @@ fn chance_byte(fields: &Fields) -> u8 {
     (fields.time as u8).max(2)
 }
 
-/// A small input: a whole file, a damaged one, or bytes that are no file. `k` picks the kind in turn.
-pub fn small(chance: &mut Chance, k: usize) -> Input {
+/// A model of few states that is accepted.
+fn few_states(chance: &mut Chance) -> Fields {
     let states = match chance.between(0, 9) {
         0 => 1,
         1..=6 => chance.between(2, 4) as u8,
@@ -226,59 +250,176 @@ pub fn small(chance: &mut Chance, k: usize) -> Input {
         _ => chance.between(8, 12) as u8,
     };
     let highest = chance.between(1, 8) as u8;
-    let mut fields = accepted(chance, states, highest);
-    let cells = cells(chance, states, highest);
-    match k % 10 {
-        // whole files
-        0..=3 => Input { file: fields.bytes(), cells },
-        // one damage, and two
-        4 | 5 => {
-            let row = chance.between(3, 12);
-            damage(chance, &mut fields, row);
-            Input { file: fields.bytes(), cells }
-        }
-        6 => {
-            let (row, other) = (chance.between(3, 12), chance.between(3, 12));
-            // the states last: the other damages count on them
-            damage(chance, &mut fields, row.max(other));
-            damage(chance, &mut fields, row.min(other));
-            Input { file: fields.bytes(), cells }
-        }
-        // cut short, or longer, with the length put right or not
-        7 => {
-            let mut file = fields.bytes();
-            if chance.one_in(2) {
-                let left = chance.index(file.len() + 1);
-                file.truncate(left);
-            } else {
-                let more = chance.between(1, 9);
-                file.extend((0..more).map(|_| 0));
+    accepted(chance, states, highest)
+}
+
+/// How a file is spoiled.
+#[derive(Clone, Copy, PartialEq)]
+enum Spoiling {
+    Not,
+    OneDamage,
+    TwoDamages,
+    /// cut short, or longer, with the length put right or not
+    Length,
+    /// bytes changed anywhere
+    Bytes,
+    /// no file at all: random bytes, the first few as a file's would be
+    Random,
+}
+
+impl Spoiling {
+    /// Each in turn, whole files most often.
+    fn turn(k: usize) -> Spoiling {
+        use Spoiling::*;
+        [Not, Not, Not, Not, OneDamage, OneDamage, TwoDamages, Length, Bytes, Random][k % 10]
+    }
+
+    fn bytes(self, chance: &mut Chance, mut fields: Fields) -> Vec<u8> {
+        match self {
+            Spoiling::Not => fields.bytes(),
+            Spoiling::OneDamage => {
+                let row = chance.between(3, 12);
+                damage(chance, &mut fields, row);
+                fields.bytes()
             }
-            if file.len() >= 2 && chance.one_in(2) {
-                relength(&mut file);
+            Spoiling::TwoDamages => {
+                let (row, other) = (chance.between(3, 12), chance.between(3, 12));
+                // the states last: the other damages count on them
+                damage(chance, &mut fields, row.max(other));
+                damage(chance, &mut fields, row.min(other));
+                fields.bytes()
             }
-            Input { file, cells }
+            Spoiling::Length => {
+                let mut file = fields.bytes();
+                if chance.one_in(2) {
+                    let left = chance.index(file.len() + 1);
+                    file.truncate(left);
+                } else {
+                    let more = chance.between(1, 9);
+                    file.extend((0..more).map(|_| 0));
+                }
+                if file.len() >= 2 && chance.one_in(2) {
+                    relength(&mut file);
+                }
+                file
+            }
+            Spoiling::Bytes => {
+                let mut file = fields.bytes();
+                for _ in 0..chance.between(1, 3) {
+                    let at = chance.index(file.len());
+                    file[at] = chance.next() as u8;
+                }
+                file
+            }
+            Spoiling::Random => {
+                let length = chance.index(80);
+                let mut file: Vec<u8> = (0..length).map(|_| chance.next() as u8).collect();
+                let known = chance.index(14).min(length);
+                file[..known].copy_from_slice(&fields.bytes()[..known]);
+                if length >= 2 && !chance.one_in(3) {
+                    relength(&mut file);
+                }
+                file
+            }
         }
-        // bytes changed anywhere
+    }
+}
+
+/// A small input: a whole file, a damaged one, or bytes that are no file. `k` picks the kind in turn.
+pub fn small(chance: &mut Chance, k: usize) -> Input {
+    let fields = few_states(chance);
+    let cells = cells(chance, fields.states, fields.highest);
+    let spoiling = Spoiling::turn(k);
+    let file = spoiling.bytes(chance, fields);
+    Input { file, cells: if spoiling == Spoiling::Random { chance.index(600) } else { cells } }
+}
+
+/// `count` rising times from 1 to `latest`, which is at least `count`: near each other, over the whole range, or up to
+/// its end.
+pub fn rising(chance: &mut Chance, count: usize, latest: u32) -> Vec<u32> {
+    let latest = u64::from(latest);
+    let kind = chance.between(0, 3);
+    let mut times = BTreeSet::new();
+    if kind == 0 {
+        let first = chance.scaled(1, latest - count as u64 + 1);
+        times.extend(first..first + count as u64);
+    }
+    if kind == 1 && count > 0 {
+        times.insert(latest);
+    }
+    while times.len() < count {
+        times.insert(if chance.one_in(2) { chance.scaled(1, latest) } else { chance.between(1, latest) });
+    }
+    times.into_iter().map(|time| time as u32).collect()
+}
+
+/// Makes one of the rows that a list is judged by hold, where it can.
+fn damage_times(chance: &mut Chance, times: &mut Vec<u32>, latest: u32) {
+    let late = [latest + 1, 1 << 31, u32::MAX];
+    let at = chance.index(times.len().max(1));
+    match chance.between(0, 9) {
+        0 => times.clear(),
+        // more than 8, rising as far as they did
+        1 => {
+            for _ in times.len()..chance.between(9, 10) as usize {
+                let next = times.last().map_or(1, |&last| last.saturating_add(1));
+                times.push(next);
+            }
+        }
+        2 | 3 if at > 0 => times[at] = times[at - 1],
+        4 if at > 0 => times.swap(at - 1, at),
+        5 if at > 0 => times[at] = 0,
+        // 0, alone or with all after it still rising
+        6 if !times.is_empty() => times[0] = 0,
+        7 => times.reverse(),
         8 => {
-            let mut file = fields.bytes();
-            for _ in 0..chance.between(1, 3) {
-                let at = chance.index(file.len());
-                file[at] = chance.next() as u8;
+            if let Some(last) = times.last_mut() {
+                *last = chance.of(&late);
             }
-            Input { file, cells }
         }
-        // no file at all: random bytes, the first few as a file's would be
-        _ => {
-            let length = chance.index(80);
-            let mut file: Vec<u8> = (0..length).map(|_| chance.next() as u8).collect();
-            let known = chance.index(14).min(length);
-            file[..known].copy_from_slice(&fields.bytes()[..known]);
-            if length >= 2 && !chance.one_in(3) {
-                relength(&mut file);
-            }
-            Input { file, cells: chance.index(600) }
-        }
+        _ if !times.is_empty() => times[at] = chance.of(&late),
+        _ => {}
+    }
+}
+
+/// A file with a list of times. `k` picks in turn how the file is spoiled. A file may also have an own time that row 12
+/// would stop, and a list may be damaged, by one row or by two.
+pub fn series(chance: &mut Chance, k: usize) -> SeriesInput {
+    let mut fields = few_states(chance);
+    let block = usize::from(fields.states) * usize::from(fields.highest);
+    let latest = (256_000_000 / fields.largest_row_sum().max(1)) as u32;
+    let count = if chance.one_in(4) { 8 } else { chance.between(1, 8) as usize };
+    let mut times = rising(chance, count, latest);
+    if chance.one_in(4) {
+        fields.time = chance.of(&[1, latest, latest + 1, u32::MAX]);
+    }
+    for _ in 0..chance.of(&[0, 0, 0, 1, 1, 2]) {
+        damage_times(chance, &mut times, latest);
+    }
+    let needed = times.len() * block;
+    SeriesInput {
+        levels: if chance.one_in(2) { times.len() } else { about(chance, times.len(), 8) },
+        cells: match chance.between(0, 9) {
+            0 => block,
+            1 => needed.saturating_sub(block),
+            2..=5 => about(chance, needed, 8 * 512),
+            _ => needed,
+        },
+        times,
+        file: Spoiling::turn(k).bytes(chance, fields),
+    }
+}
+
+/// A whole file of `states` and `highest` with a list of `count` times, and as many levels and cells as it takes.
+pub fn whole_series(chance: &mut Chance, states: u8, highest: u8, count: usize) -> SeriesInput {
+    let fields = accepted(chance, states, highest);
+    let latest = (256_000_000 / fields.largest_row_sum().max(1)) as u32;
+    let times = rising(chance, count, latest);
+    SeriesInput {
+        file: fields.bytes(),
+        times,
+        levels: count,
+        cells: count * usize::from(states) * usize::from(highest),
     }
 }
 
