@@ -115,7 +115,8 @@ static void mark(uint64_t *words, size_t count) {
 }
 
 /* The slice in the midst of `words` begins with the `written` numbers of `expected`; all else is as before. */
-static void expect_words(const char *what, const uint64_t *words, size_t count, const uint64_t *expected, size_t written) {
+static void expect_words(const char *what, const uint64_t *words, size_t count, const uint64_t *expected,
+                         size_t written) {
     size_t at;
     for (at = 0; at < count; at++) {
         int new_word = at >= GUARD && at - GUARD < written;
@@ -131,8 +132,8 @@ struct lent {
     size_t time_count, level_count, cell_count;
 };
 
-/* Calls on a stack of its own: the answer is to be `answer`, the first `level_words` levels and `cell_words` cells as
- * given, and all else as before. */
+/* Calls on a stack of its own: the answer is to be `answer`, the first `levels_written` levels `level_words`, the first
+ * `cells_written` cells `moments`, and all else as before. */
 static void expect(const char *call_name, void (*call)(void), struct lent lent, uint64_t answer,
                    const uint64_t *level_words, size_t levels_written, const uint64_t *moments, size_t cells_written) {
     static ucontext_t caller, own;
@@ -170,7 +171,7 @@ static void expect(const char *call_name, void (*call)(void), struct lent lent, 
     }
 }
 
-/* kuldrepso_calculate with `length` bytes of `file` and `count` cells, of which the first `written` are to be `moments`. */
+/* kuldrepso_calculate with `length` bytes of `file` and `count` cells; the first `written` of them are to be `moments`. */
 static void expect_level(const char *call_name, const uint8_t *file, size_t length, size_t count, uint64_t level,
                          const uint64_t *moments, size_t written) {
     struct lent lent = {file, length, NULL, 0, 0, count};

@@ -8,7 +8,7 @@ use crate::{independent, library};
 /// The number that an accepting call returns, or the row that refuses.
 pub type Answer = Result<u64, u8>;
 
-/// What a call wrote: for each slice lent to be written to the name of its elements, and those written, from the first on.
+/// What a call wrote: for each slice lent to be written to, the name of its elements and those written, from the first on.
 pub type Written = Vec<(&'static str, Vec<u64>)>;
 
 /// What a call did with one input.

@@ -29,7 +29,7 @@ const B_MOMENTS: [u64; 4] = [718_750_000_000, 612_500_000_000, 281_250_000_000, 
 struct Tally {
     save: PathBuf,
     inputs: usize,
-    /// For each call and each end of it, as a row's number: how many inputs came to it.
+    /// For each call and each way to end, a row's number for one: how many inputs came to it.
     ends: BTreeMap<(&'static str, String), usize>,
 }
 
@@ -210,6 +210,13 @@ fn series_papers(tally: &mut Tally) {
     }
 }
 
+/// Longer than the length field can say: the field agrees with the low 16 bits of the count.
+fn too_long() -> Vec<u8> {
+    let mut file = B.to_vec();
+    file.resize(B.len() + 65_536, 0);
+    file
+}
+
 /// Every value of one thing at a time: a header byte, where a file is cut, how many cells are lent.
 fn sweeps(tally: &mut Tally, chance: &mut Chance) {
     for file in [&A[..], &B[..]] {
@@ -229,13 +236,11 @@ fn sweeps(tally: &mut Tally, chance: &mut Chance) {
             tally.compare("every number of cells", &Input { file: file.clone(), cells });
         }
     }
-    // Longer than the length field can say: the field agrees with the low 16 bits of the count.
-    let mut file = B.to_vec();
-    file.resize(B.len() + 65_536, 0);
-    tally.compare("65,536 bytes too many", &Input { file, cells: 512 });
+    tally.compare("65,536 bytes too many", &Input { file: too_long(), cells: 512 });
 }
 
-/// Every number of times, levels and cells on small files, every time for B, every value of a header byte.
+/// Lists of 0 to 10 times with every number of levels and the cells about every number of blocks; every value of a header
+/// byte, every cut; every time for B.
 fn series_sweeps(tally: &mut Tally, chance: &mut Chance) {
     for file in [&A[..], &B[..]] {
         let block = usize::from(file[3]) * usize::from(file[4]);
@@ -267,6 +272,8 @@ fn series_sweeps(tally: &mut Tally, chance: &mut Chance) {
         let times = vec![time, time + 1, time + 2];
         tally.compare("every time and the next two", &SeriesInput { times, levels: 3, cells: 12, ..input });
     }
+    let input = SeriesInput { file: too_long(), times: vec![1], levels: 1, cells: 4 };
+    tally.compare("65,536 bytes too many", &input);
 }
 
 /// Many states: all numbers of states from 8 up, every R among them.
@@ -364,8 +371,7 @@ fn main() {
         tally.compare(&format!("seed {seed}, half tick {k}"), &input);
     }
 
-    let of_calculate = tally.inputs;
-
+    let alone = tally.inputs;
     series_papers(&mut tally);
     for (name, file) in &files {
         tally.compare(name, &up_to_own_time(file));
@@ -376,10 +382,15 @@ fn main() {
         let input = models::series(&mut chance, k);
         tally.compare(&format!("seed {seed}, list {k}"), &input);
     }
+    for k in 0..400 {
+        let file = models::half_tick(&mut chance).bytes();
+        let input = SeriesInput { file, times: vec![1, 2, 3], levels: 3, cells: 48 };
+        tally.compare(&format!("seed {seed}, half tick first {k}"), &input);
+    }
 
     tally.print::<Input>(seed);
     tally.print::<SeriesInput>(seed);
-    let lists = grouped(tally.inputs - of_calculate);
+    let lists = grouped(tally.inputs - alone);
     println!("rust comparison: {} inputs, {lists} of them with a list of times, all equal", grouped(tally.inputs));
 }
 
