@@ -6,7 +6,7 @@ use std::ops::Range;
 /// Elements before and after a lent slice, which no call may touch.
 const GUARD: usize = 4;
 
-pub trait Element: Copy + PartialEq + Display {
+pub trait Element: Copy + PartialEq + Display + Into<u64> {
     /// What an element holds before a call that may write to it, and a guard always: a number of its place.
     fn marker(at: usize) -> Self;
 }
@@ -66,15 +66,15 @@ impl<T: Element> Lent<T> {
         &mut self.now[range]
     }
 
-    /// The first `count` elements, with their name, after a call that writes these and no more; or what else it has
-    /// changed, in words.
-    pub fn written(&self, count: usize) -> Result<(&'static str, Vec<T>), String> {
+    /// The name and the first `count` elements, after a call that writes these and no more; or a line on what else it has
+    /// changed.
+    pub fn written(&self, count: usize) -> Result<(&'static str, Vec<u64>), String> {
         if count > self.slice().len() {
             return Err(format!("{count} elements '{}' of {} lent", self.name, self.slice().len()));
         }
         let written = GUARD..GUARD + count;
         match (0..self.now.len()).find(|at| !written.contains(at) && self.now[*at] != self.first[*at]) {
-            None => Ok((self.name, self.now[written].to_vec())),
+            None => Ok((self.name, self.now[written].iter().map(|&element| element.into()).collect())),
             Some(at) => {
                 let place = at as isize - GUARD as isize;
                 Err(format!("{} {place} was {}, and now is {}", self.name, self.first[at], self.now[at]))
@@ -82,7 +82,7 @@ impl<T: Element> Lent<T> {
         }
     }
 
-    /// After a call that only reads: all is as it was, or what is not, in words.
+    /// After a call that only reads: all is as it was, or a line on what is not.
     pub fn unchanged(&self) -> Result<(), String> {
         self.written(0).map(|_| ())
     }
