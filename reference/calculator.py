@@ -1,8 +1,8 @@
 #!/usr/bin/env python3
 """Reference calculator: moments of the accumulated reward of a repairable system.
 
-Written from document 01 and request S-1 of document 02 alone, in plain whole numbers,
-with the paper's letters. S-1 decides the last division; every other rounding is down.
+Written from document 01 and requests S-1 and S-3 of document 02 alone, in plain whole numbers,
+with the papers' letters. S-1 decides the last division; every other rounding is down.
 Reads a model file from standard input and prints its sheet:
 
     python3 reference/calculator.py < examples/B.model
@@ -23,6 +23,8 @@ BILLION = 10**9       # the tolerance is in billionths
 READ_LIMIT = 16398    # bytes the program reads at most
 LENT_CELLS = 512      # answer cells the program lends
 LEVEL_LIMIT = 1024    # the level is never above this
+MOST_TIMES = 8        # times that a list may have
+REFUSED = 1_000_000   # refusal k as the answer of a call: this and k
 
 # M states, highest moment R, tolerance epsilon, time T, reward rates f with the largest F,
 # rows c of the uniformized chain with uniformization rate E, and X = E * T.
@@ -204,6 +206,54 @@ def calculate(file, cells):
         for r in range(1, model.R + 1):
             cells[(i - 1) * model.R + (r - 1)] = moment(w, U, N, i - 1, r)
     return result
+
+
+# --- One model, several times (S-3) --------------------------------------------------------------
+
+def series_refusal(file, times, levels, cells):
+    """The first row that holds for a file with a list of times and counts of level and block cells, or 0: rows 1 to 11,
+    8 also for a first listed time of 0, then 14, 15, 12 for the last listed time, 13."""
+    row = refusal(file, LENT_CELLS)            # 12, for the file's own time, does not count here
+    if 1 <= row <= 8:
+        return row
+    if times and times[0] == 0:
+        return 8
+    if 9 <= row <= 11:
+        return row
+    if not 1 <= len(times) <= MOST_TIMES:
+        return 14
+    if any(late <= early for early, late in zip(times, times[1:])):
+        return 15
+    model = read_model(file)
+    if model.E * times[-1] > 256_000_000:
+        return 12
+    if levels < len(times) or cells < len(times) * model.M * model.R:
+        return 13
+    return 0
+
+
+def series(file, times, levels, cells):
+    """("refused", k), or ("times", how many): then each time has its level, and its block of M * R cells takes the
+    moments, in list order."""
+    row = series_refusal(file, times, len(levels), len(cells))
+    if row:
+        return ("refused", row)
+    model = read_model(file)
+    found = [level(model.E * T, model.epsilon) for T in times]
+    U = reward_vectors(model, max(found))      # no vector depends on the time
+    size = model.M * model.R
+    for k, (T, N) in enumerate(zip(times, found)):
+        w = weights(model.E * T, N)
+        block = [moment(w, U, N, i, r) for i in range(model.M) for r in range(1, model.R + 1)]
+        levels[k] = N
+        cells[k * size:(k + 1) * size] = block
+    return ("times", len(times))
+
+
+def answer(result):
+    """The number that a call of the library answers for a result: 1,000,000 and k for refusal k."""
+    word, value = result
+    return REFUSED + value if word == "refused" else value
 
 
 # --- The printed sheet -------------------------------------------------------------------------
