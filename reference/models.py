@@ -440,39 +440,43 @@ def product_past_32_bits(rng):
     return build(**fields_for(rng, rng.randint(2, 3), E, 2**(32 - shift) + rng.choice([0, 1])))
 
 
+def breaking(rng, fields, rows):
+    """A file of two states or more, changed so that it breaks these rows of 1 to 12: the first of them counts."""
+    M = fields["M"]
+    if 12 in rows:
+        fields["T"] = MAX_WORD
+        fields["rates"] = [row_to(rng, M, rng.randint(1, 9_000_000), 1.0) for _ in range(M)]
+    if 11 in rows:
+        fields["rates"][rng.randrange(M)] = row_to(rng, M, rng.randint(10_000_001, MAX_WORD), 0.0)
+    if 10 in rows:
+        fields["rewards"] = [0] * M
+    if 9 in rows:
+        fields["rewards"][rng.randrange(M)] = rng.randint(1_000_001, MAX_WORD)
+    if 8 in rows:
+        fields["T"] = 0
+    if 7 in rows:
+        fields["eps"] = rng.choice([0, rng.randint(100_000_001, MAX_WORD)])
+    if 5 in rows:
+        fields["R"] = rng.choice([0, 9, rng.randint(9, 255)])
+    if 4 in rows:
+        fields["M"] = rng.choice([0, 65, rng.randint(65, 255)])
+    if 3 in rows:
+        fields["version"] = rng.choice([0, 2, rng.randint(2, 255)])
+    file = build(**fields)
+    if 6 in rows:
+        file = relength(file + bytes(rng.randint(1, 9)))
+    if 2 in rows:
+        file = file + bytes(rng.randint(1, 9))
+    if 1 in rows:
+        file = file[:rng.randint(0, 12)]
+    return file
+
+
 def several(row, later):
     """A file that breaks `row` and some of the `later` rows as well: the first one counts."""
     def make(rng):
         fields = two_or_more(rng)
-        M = fields["M"]
-        rows = {row} | set(rng.sample(later, rng.randint(1, len(later))))
-        if 12 in rows:
-            fields["T"] = MAX_WORD
-            fields["rates"] = [row_to(rng, M, rng.randint(1, 9_000_000), 1.0) for _ in range(M)]
-        if 11 in rows:
-            fields["rates"][rng.randrange(M)] = row_to(rng, M, rng.randint(10_000_001, MAX_WORD), 0.0)
-        if 10 in rows:
-            fields["rewards"] = [0] * M
-        if 9 in rows:
-            fields["rewards"][rng.randrange(M)] = rng.randint(1_000_001, MAX_WORD)
-        if 8 in rows:
-            fields["T"] = 0
-        if 7 in rows:
-            fields["eps"] = rng.choice([0, rng.randint(100_000_001, MAX_WORD)])
-        if 5 in rows:
-            fields["R"] = rng.choice([0, 9, rng.randint(9, 255)])
-        if 4 in rows:
-            fields["M"] = rng.choice([0, 65, rng.randint(65, 255)])
-        if 3 in rows:
-            fields["version"] = rng.choice([0, 2, rng.randint(2, 255)])
-        file = build(**fields)
-        if 6 in rows:
-            file = relength(file + bytes(rng.randint(1, 9)))
-        if 2 in rows:
-            file = file + bytes(rng.randint(1, 9))
-        if 1 in rows:
-            file = file[:rng.randint(0, 12)]
-        return file
+        return breaking(rng, fields, {row} | set(rng.sample(later, rng.randint(1, len(later)))))
     return make
 
 

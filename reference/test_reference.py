@@ -34,6 +34,23 @@ def put(file, start, size, value):
     return file[:start] + value.to_bytes(size, "big") + file[start + size:]
 
 
+# Document 01's small example of each row that a file can break.
+EXAMPLES = {
+    1: b"",
+    2: A[:-1],
+    3: put(A, 2, 1, 2),
+    4: put(A, 3, 1, 0),
+    5: put(A, 4, 1, 9),
+    6: put(A, 3, 1, 2),
+    7: put(A, 5, 4, 0),
+    8: put(A, 9, 4, 0),
+    9: put(A, 13, 4, 1_000_001),
+    10: put(A, 13, 4, 0),
+    11: put(B, 21, 4, 10_000_001),
+    12: put(B, 9, 4, 257),
+}
+
+
 def expected_row(name):
     """The row a generated name tells: 1 to 13, 0 for accepted, None where it is left open."""
     word = name.split("-")[1]
@@ -102,21 +119,7 @@ class HandCheckedFiles(unittest.TestCase):
 class RefusalTable(unittest.TestCase):
 
     def test_small_examples(self):
-        examples = {
-            1: b"",
-            2: A[:-1],
-            3: put(A, 2, 1, 2),
-            4: put(A, 3, 1, 0),
-            5: put(A, 4, 1, 9),
-            6: put(A, 3, 1, 2),
-            7: put(A, 5, 4, 0),
-            8: put(A, 9, 4, 0),
-            9: put(A, 13, 4, 1_000_001),
-            10: put(A, 13, 4, 0),
-            11: put(B, 21, 4, 10_000_001),
-            12: put(B, 9, 4, 257),
-        }
-        for row, file in examples.items():
+        for row, file in EXAMPLES.items():
             with self.subTest(row=row):
                 self.assertEqual(outcome(file, 512), ("refused", row))
                 self.assertEqual(sheet(file), b"refused %d\n" % row)
@@ -379,6 +382,172 @@ class LastDivision(unittest.TestCase):
         files = [file for name, file in models.mixed_models(1, 300) if "half-tick" in name]
         for rule, wrong in self.WRONG.items():
             self.assertTrue(any(sheet_with(wrong, file) != sheet(file) for file in files), rule)
+
+
+class Series(unittest.TestCase):
+    """S-3: one model, several times."""
+
+    NINE = list(range(1, 10))
+    LISTS = ([], [1], [1, 1], [2, 1], [1, 0], NINE, NINE[::-1], [1] * 9, [1, 2**32 - 1], [2**32 - 1])
+
+    def refused(self, row, file, times, levels=9, cells=99):
+        """A refusal by this row, no cell of either slice changed."""
+        lent = list(range(100, 100 + levels)), list(range(200, 200 + cells))
+        before = [list(part) for part in lent]
+        result = calculator.series(file, times, *lent)
+        self.assertEqual((result, list(lent)), (("refused", row), before), (file.hex(), times))
+
+    def blocks(self, file, times, levels=None, cells=None):
+        """The levels and the blocks of an accepted list, cells past them left out; those keep what they hold."""
+        size = file[3] * file[4]
+        taken = len(times), len(times) * size
+        lent = [list(range(100, 100 + (n if count is None else count))) for n, count in zip(taken, (levels, cells))]
+        past = [part[n:] for n, part in zip(taken, lent)]
+        self.assertEqual(calculator.series(file, times, *lent), ("times", len(times)))
+        self.assertEqual([part[n:] for n, part in zip(taken, lent)], past)
+        return lent[0][:taken[0]], [lent[1][k * size:(k + 1) * size] for k in range(len(times))]
+
+    def check_runs(self, name, file, times):
+        """Each level and block is that of the file with this time in bytes 9 to 12."""
+        for T, N, block in zip(times, *self.blocks(file, times)):
+            cells = [None] * (file[3] * file[4])
+            self.assertEqual(calculator.calculate(put(file, 9, 4, T), cells), ("level", N), (name, T))
+            self.assertEqual(cells, block, (name, T))
+
+    def test_B(self):
+        levels, blocks = self.blocks(B, [1, 2, 256], 5, 20)
+        self.assertEqual(levels, [3, 4, 280])
+        self.assertEqual(blocks[0], [718750000000, 612500000000, 281250000000, 175000000000])
+        # With q = 2, N = 4: the weights 1, 2, 2, 4/3, 2/3 sum to 7, and u(n,1) at state 1 is 1, 1/2, 2/3, 1/2, 3/5.
+        by_hand = (1 + 2 * Fraction(1, 2) + 2 * Fraction(2, 3) + Fraction(4, 3) / 2 + Fraction(2, 3) * Fraction(3, 5)) / 7
+        self.assertEqual((by_hand, blocks[1][0]), (Fraction(22, 35), 628571428571))
+
+    def test_rows_1_to_7(self):
+        for row in range(1, 8):
+            for times in (*self.LISTS, [0], [0] * 9):
+                self.refused(row, EXAMPLES[row], times)
+                self.refused(row, EXAMPLES[row], times, 0, 0)
+
+    def test_row_8_of_the_file(self):
+        for times in (*self.LISTS, [0], [0] * 9):
+            self.refused(8, put(B, 9, 4, 0), times)
+            self.refused(8, put(B, 9, 4, 0), times, 0, 0)
+
+    def test_row_8_of_the_list(self):
+        for times in ([0], [0, 1], [0, 0], [0] * 9, [0, 2**32 - 1], [0] + self.NINE):
+            self.refused(8, B, times)
+            self.refused(8, B, times, 0, 0)
+            for row in (9, 10, 11):
+                self.refused(8, EXAMPLES[row], times)
+            self.refused(7, put(B, 5, 4, 0), times)
+        self.refused(15, B, [1, 0])            # the first time alone is judged by 8
+
+    def test_rows_9_to_11(self):
+        for row in (9, 10, 11):
+            for times in self.LISTS:
+                self.refused(row, EXAMPLES[row], times)
+                self.refused(row, EXAMPLES[row], times, 0, 0)
+
+    def test_row_14(self):
+        for times in ([], self.NINE, self.NINE[::-1], [1] * 9, [1] * 9 + [0], [257] * 9, list(range(250, 259))):
+            self.refused(14, B, times)
+            self.refused(14, B, times, 0, 0)
+        self.refused(14, B, list(range(1, 1001)), 1000, 4000)
+        self.assertEqual(len(self.blocks(B, self.NINE[:8])[0]), 8)
+        self.assertEqual(len(self.blocks(B, [1])[0]), 1)
+
+    def test_empty_list(self):
+        self.refused(14, B, [])
+        self.refused(8, put(B, 9, 4, 0), [])
+        self.refused(14, put(B, 9, 4, 257), [])
+        self.refused(11, EXAMPLES[11], [])
+
+    def test_row_15(self):
+        for place in range(1, 8):
+            for other in (place - 1, place):   # below the time before it, or equal to it
+                times = self.NINE[:8]
+                times[place] = other
+                self.refused(15, B, times)
+                self.refused(15, B, times, 0, 0)
+                self.refused(15, B, [T + 300 for T in times])       # 12 holds as well
+        for times in ([2, 1], [1, 1], [257, 257], [300, 257], [2**31, 1], [2**32 - 1, 0]):
+            self.refused(15, B, times)
+
+    def test_row_12(self):
+        for times in ([257], [1, 257], [256, 257], [1, 2**31], [2**32 - 2, 2**32 - 1], [250, 251, 252, 253, 254, 255, 256, 257]):
+            self.refused(12, B, times)
+            self.refused(12, B, times, 0, 0)
+        self.refused(12, A, [256_000_001])
+        self.refused(12, A, [2**32 - 1])
+        self.assertEqual(self.blocks(A, [1, 256_000_000])[1], [[ONE], [ONE]])
+        self.blocks(B, [256])
+
+    def test_the_files_own_time_is_not_used(self):
+        for T in (1, 256, 257, 2**32 - 1):
+            self.assertEqual(self.blocks(put(B, 9, 4, T), [1, 2]), self.blocks(B, [1, 2]))
+        self.refused(12, put(B, 9, 4, 1), [257])
+
+    def test_row_13(self):
+        for times in ([1], [1, 2], [1, 2, 3, 4, 5, 6, 7, 8]):
+            enough = len(times), 4 * len(times)
+            self.blocks(B, times, *enough)
+            self.refused(13, B, times, enough[0] - 1, enough[1])
+            self.refused(13, B, times, enough[0], enough[1] - 1)
+            self.refused(13, B, times, 0, 10**4)
+            self.refused(13, B, times, 10**4, 0)
+            self.refused(13, B, times, 0, 0)
+
+    def test_runs_of_small_files(self):
+        self.check_runs("A", A, [1, 2, 1000, 256_000_000])
+        self.check_runs("B", B, [1, 2, 3, 5, 8, 13, 21, 256])
+        for name, file in models.valid_models(7, 60):
+            if file[3]**2 * file[4] > 300:
+                continue
+            most = 256_000_000 // calculator.read_model(file).E
+            rng = random.Random(name)
+            count = min(most, rng.randint(1, 8))
+            self.check_runs(name, file, sorted(rng.sample(range(1, most + 1), count)))
+
+    def test_levels_that_stay(self):
+        # E is 1 and q moves by a millionth: the level stays, and so do nearly all digits.
+        file = models.build(1, 2, 1, 1_000, 1, [3, 1], [[1], [0]])
+        times = list(range(7_000_000, 7_000_008))
+        levels, blocks = self.blocks(file, times)
+        self.assertEqual(len(set(levels)), 1)
+        self.assertGreater(len(set(map(tuple, blocks))), 1)
+        self.check_runs("close times", file, times)
+
+    def test_level_next_to_its_rise(self):
+        # Two times next to each other between which the level rises by one, by the kit's rows of exact borders.
+        rises = 0
+        for row in edges.LEVEL_ROWS:
+            X, n = row.rates[0][0] * row.T, row.holds[0].n
+            if X > 20_000_000:
+                continue
+            file = models.build(1, 2, 1, row.epsilon, 1, [1, 0], [[1], [0]])
+            levels, _ = self.blocks(file, [X - 1, X, X + 1])
+            self.assertEqual(levels[1], n + (row.holds[0].miss > 0), row.name)
+            rises += levels[0] < levels[2]
+        self.assertGreater(rises, 5)
+
+    def test_vectors_once(self):
+        with mock.patch.object(calculator, "next_vectors", wraps=calculator.next_vectors) as watched:
+            levels, _ = self.blocks(B, [1, 2, 100, 256])
+        self.assertEqual([call.args[1] for call in watched.call_args_list], list(range(1, max(levels) + 1)))
+
+    def test_largest_level_need_not_be_the_last(self):
+        # Levels rise with the time as document 01 has them; the vectors go as far as the largest, wherever it stands.
+        right = calculator.series(B, [1, 2], [0, 0], [0] * 8)
+        with mock.patch.object(calculator, "level", side_effect=lambda X, epsilon: 9 - X // 10**6):
+            levels, blocks = self.blocks(B, [1, 2])
+        self.assertEqual((right, levels), (("times", 2), [8, 7]))
+        self.assertEqual(blocks[0][0], calculator.moment(
+            calculator.weights(10**6, 8), calculator.reward_vectors(calculator.read_model(B), 8), 8, 0, 1))
+
+    def test_answer(self):
+        self.assertEqual(calculator.answer(("refused", 14)), 1_000_014)
+        self.assertEqual(calculator.answer(("times", 8)), 8)
+        self.assertEqual(calculator.answer(("level", 3)), 3)
 
 
 class ExactAverage(unittest.TestCase):
