@@ -109,14 +109,14 @@ def late(rng, most):
     return rng.choice([most + 1, MAX_WORD, 2**31, past_32_bits, rng.randint(most + 1, MAX_WORD)])
 
 
-def disturbed(rng, times):
-    """A list of two or more with a time that is not above the one before it; the last one stays."""
+def disturbed(rng, times, keep_last):
+    """A list of two or more with a time that is not above the one before it: lowered, or the one before it raised."""
     times = list(times)
-    place = rng.randrange(len(times) - 1)
-    if place and rng.random() < 0.5:
-        times[place] = rng.choice([times[place - 1], rng.randint(0, times[place - 1])])
+    place = rng.randrange(1, len(times))
+    if rng.random() < 0.5 and not (keep_last and place == len(times) - 1):
+        times[place] = rng.choice([times[place - 1], 0, rng.randint(0, times[place - 1])])
     else:
-        times[place] = rng.choice([times[place + 1], rng.randint(times[place + 1], MAX_WORD)])
+        times[place - 1] = rng.choice([times[place], rng.randint(times[place], MAX_WORD)])
     return times
 
 
@@ -134,7 +134,7 @@ def list_of_times(rng, most, rows):
         times[-1] = late(rng, most)
     if 15 in rows:
         first = times[:1] if 8 in rows else []
-        times = first + disturbed(rng, times[len(first):])
+        times = first + disturbed(rng, times[len(first):], 12 in rows)
     if 8 in rows:
         times[0] = 0
     return times

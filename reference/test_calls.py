@@ -1,0 +1,266 @@
+#!/usr/bin/env python3
+"""Tests of the library's calls from Python and of their generated inputs: python3 reference/test_calls.py"""
+
+import contextlib
+import io
+import os
+import subprocess
+import sys
+import tempfile
+import unittest
+from unittest import mock
+
+sys.dont_write_bytecode = True
+HERE = os.path.dirname(os.path.abspath(__file__))
+sys.path.insert(0, HERE)
+
+import calculator  # noqa: E402
+import compare_calls  # noqa: E402
+import inputs  # noqa: E402
+import library  # noqa: E402
+import cases  # noqa: E402
+from library import GUARD, PAINT  # noqa: E402
+
+B = bytes.fromhex("001B01020205F5E100000000010000000100000000000F4240000F4240")
+
+# A library that goes wrong in the way that the file's first byte tells.
+WRONG_LIBRARY = r"""
+#include <stdint.h>
+#include <stddef.h>
+uint64_t kuldrepso_calculate(uint8_t *file, size_t file_length, uint64_t *cells, size_t cell_count) {
+    switch (file[0]) {
+    case 1: cells[cell_count] = 7; break;
+    case 2: cells[-1] = 7; break;
+    case 3: file[1] = 7; break;
+    case 4: file[file_length] = 7; break;
+    case 5: file[-1] = 7; break;
+    case 6: cells[cell_count + 8] = 7; break;
+    case 7: *(volatile int *)8 = 7; break;
+    }
+    if (cell_count > 0) cells[0] = 10 * file_length + cell_count;
+    return UINT64_C(0xFFFFFFFFFFFFFFFF) - file[0];
+}
+"""
+
+
+def given_all(seed, count, call="series"):
+    return [each.given for each in inputs.GENERATED[call](seed, count)]
+
+
+def answers(call, seed, count):
+    return [inputs.outcome(calculator, call, given)[0] for given in given_all(seed, count, call)]
+
+
+class Reference:
+    """A library that is the reference itself; `change` may change what a call gives."""
+
+    def __init__(self, change=lambda answer, written: (answer, written)):
+        self.change = change
+
+    def call(self, name, given):
+        return (*self.change(*inputs.outcome(calculator, name, given)), [])
+
+
+class Inputs(unittest.TestCase):
+
+    def test_aimed_inputs_reach_their_row(self):
+        for call in library.CALLS:
+            for name, _, given in inputs.GENERATED[call](2, 200):
+                row = inputs.row_of(inputs.outcome(calculator, call, given)[0])
+                if "-row-" in name:
+                    self.assertEqual(row, int(name[-2:]), name)
+                elif name.endswith("accepted"):
+                    self.assertEqual(row, 0, name)
+
+    def test_each_row_is_reached(self):
+        for call in library.CALLS:
+            self.assertGreater(min(inputs.tally(call, answers(call, 3, 300)).values()), 7, call)
+            for seed in range(20, 22):
+                self.assertTrue(all(inputs.tally(call, answers(call, seed, inputs.ENOUGH)).values()), call)
+
+    def test_rows_are_those_of_the_papers(self):
+        self.assertEqual(inputs.ROWS["calculate"], list(range(1, 14)))
+        self.assertEqual(inputs.ROWS["series"], [1, 2, 3, 4, 5, 6, 7, 8, 9, 10, 11, 14, 15, 12, 13])
+        self.assertGreaterEqual(inputs.ENOUGH, 2 * (1 + max(map(len, inputs.ROWS.values()))))
+
+    def test_same_seed_same_inputs(self):
+        for call in library.CALLS:
+            self.assertEqual(given_all(5, 60, call), given_all(5, 60, call))
+            self.assertNotEqual(given_all(5, 60, call), given_all(6, 60, call))
+
+    def test_lists(self):
+        lists = [given["times"] for given in given_all(1, 600)]
+        counts = {len(times) for times in lists}
+        self.assertLessEqual({0, 1, 2, 3, 5, 7, 8, 9, 10}, counts)
+        neighbours = [pair for times in lists for pair in zip(times, times[1:])]
+        for word, found in (("first 0", [times for times in lists if times[:1] == [0]]),
+                            ("first 0 of 9 or more", [times for times in lists if times[:1] == [0] and len(times) > 8]),
+                            ("0 later", [pair for pair in neighbours if pair[1] == 0]),
+                            ("equal", [pair for pair in neighbours if pair[0] == pair[1]]),
+                            ("falling", [pair for pair in neighbours if pair[0] > pair[1]]),
+                            ("close", [pair for pair in neighbours if pair[0] + 1 == pair[1]]),
+                            ("2^32 - 1", [times for times in lists if 2**32 - 1 in times]),
+                            ("2^32 - 1 last", [times for times in lists if times[-1:] == [2**32 - 1]])):
+            self.assertGreater(len(found), 5, word)
+
+    def test_own_time_and_list(self):
+        """Row 12 holds for the file's own time and not for the list, and the other way round."""
+        own = listed = both = 0
+        for given in given_all(1, 400):
+            by_list = inputs.row_of(inputs.outcome(calculator, "series", given)[0])
+            by_file = calculator.refusal(given["file"], 10**6)
+            own += (by_file, by_list) == (12, 0)
+            listed += (by_file, by_list) == (0, 12)
+            both += (by_file, by_list) == (12, 12)
+        self.assertGreater(min(own, listed, both), 5)
+
+    def test_counts(self):
+        short = {"levels": set(), "cells": set()}
+        for given in given_all(1, 400):
+            if given["times"] and calculator.series_refusal(given["file"], given["times"], 9, 10**6) == 0:
+                short["levels"].add(given["levels"] - len(given["times"]))
+                short["cells"].add(given["cells"] - len(given["times"]) * given["file"][3] * given["file"][4])
+        for name, off in short.items():
+            self.assertLessEqual({-1, 0, 1}, off, name)
+            self.assertLess(min(off), -2, name)
+            self.assertGreater(max(off), 5, name)
+
+
+class Cases(unittest.TestCase):
+
+    def test_there_and_back(self):
+        for call in library.CALLS:
+            made = [cases.case(name, call, given, inputs.outcome(calculator, call, given))
+                    for name, _, given in inputs.GENERATED[call](4, 80)]
+            self.assertEqual(cases.read(cases.text(made)), made)
+            for each in made:
+                self.assertEqual(cases.expected(each), inputs.outcome(calculator, call, each.given))
+
+    def test_text(self):
+        given = dict(file=B, times=[1], levels=2, cells=5)
+        made = cases.case("B", "series", given, inputs.outcome(calculator, "series", given))
+        refused = cases.case("none", "series", dict(given, file=b"", times=[]), (1_000_001, {
+            "levels": library.painted(2), "cells": library.painted(5)}))
+        self.assertEqual(cases.text([made, refused]), (
+            "name B\ncall series\nfile 001B01020205F5E100000000010000000100000000000F4240000F4240\ntimes 1\n"
+            "levels_lent 2\ncells_lent 5\nanswer 1\nlevels 3\n"
+            "cells 718750000000 612500000000 281250000000 175000000000\n"
+            "\nname none\ncall series\nfile\ntimes\nlevels_lent 2\ncells_lent 5\nanswer 1000001\n"))
+
+
+class Comparison(unittest.TestCase):
+
+    def compare(self, linked, count=40, draw=inputs.series_inputs):
+        """The status of a comparison, and what it prints; files go to a folder of their own."""
+        with tempfile.TemporaryDirectory() as folder, contextlib.redirect_stdout(io.StringIO()) as said:
+            with mock.patch.multiple(library, FOLDER=folder, UNDER_WAY=os.path.join(folder, "under-way")):
+                with mock.patch.dict(inputs.GENERATED, series=draw):
+                    status = compare_calls.compare(linked, "series", count, 7)
+                saved = [name for name in os.listdir(folder) if name.startswith("difference")]
+        return status, said.getvalue(), saved
+
+    def test_equal(self):
+        status, said, saved = self.compare(Reference())
+        self.assertEqual((status, saved), (0, []))
+        self.assertRegex(said, r"\Acompared 40 inputs of series, seed 7: all equal \(accepted \d+; refused 1: \d+, .*\)\n\Z")
+
+    def test_different(self):
+        def one_more(answer, written):
+            if answer < calculator.REFUSED:
+                written["levels"][answer - 1] += 1
+            return answer, written
+
+        status, said, saved = self.compare(Reference(one_more))
+        self.assertEqual((status, len(saved)), (1, 1))
+        self.assertRegex(said, r"\Aseries 00000-accepted: levels\[\d\]: expected \d+, got \d+\ninput 1 of 40 differs, seed 7; "
+                               r"it is saved as .*difference-seed7-series-00000-accepted.txt\n\Z")
+
+    def test_a_row_never_reached_is_told(self):
+        for row in (0, 8, 12, 14):
+            def without(seed, count, row=row):
+                drawn = inputs.series_inputs(seed, 3 * count)
+                kept = (each for each in drawn if inputs.row_of(inputs.outcome(calculator, *each[1:])[0]) != row)
+                return [each for each, _ in zip(kept, range(count))]
+
+            status, said, _ = self.compare(Reference(), 60, without)
+            self.assertEqual(status, 1)
+            self.assertTrue(said.endswith(f"series: never reached: {row}\n"), said)
+
+    def test_difference(self):
+        was = library.painted(3)
+        for got, words in (((3, {"cells": [1, *was[1:]]}), ""),
+                           ((4, {"cells": [1, *was[1:]]}), "answer: expected 3, got 4"),
+                           ((3, {"cells": [2, *was[1:]]}), "cells[0]: expected 1, got 2"),
+                           ((3, {"cells": [1, was[1], 5]}), f"cells[2]: expected {PAINT + 2} (as it was), got 5")):
+            self.assertEqual(library.difference((3, {"cells": [1, *was[1:]]}), got), words)
+
+
+@unittest.skipIf(library.why_not(), library.why_not())
+class Library(unittest.TestCase):
+
+    @classmethod
+    def setUpClass(cls):
+        cls.folder = tempfile.TemporaryDirectory()
+        source, cls.object = (os.path.join(cls.folder.name, name) for name in ("wrong.c", "wrong.so"))
+        with open(source, "w", encoding="ascii") as target:
+            target.write(WRONG_LIBRARY)
+        subprocess.run([*library.compiler(), "-shared", "-fPIC", source, "-o", cls.object], check=True)
+        cls.linked = library.Library(cls.object)
+
+    @classmethod
+    def tearDownClass(cls):
+        cls.folder.cleanup()
+
+    def call(self, kind, cells=3):
+        return self.linked.call("calculate", dict(file=bytes([kind, 2, 3]), cells=cells))
+
+    def test_right(self):
+        self.assertEqual(self.call(0), (2**64 - 1, {"cells": [33, PAINT + 1, PAINT + 2]}, []))
+        self.assertEqual(self.call(0, 0), (2**64 - 1, {"cells": []}, []))
+
+    def test_faults(self):
+        for kind, words in ((1, f"cells[3], outside of its 3, was {PAINT + 3} and is 7"),
+                            (2, f"cells[-1], outside of its 3, was {PAINT - 1} and is 7"),
+                            (3, "file[1], which is only read, was 2 and is 7"),
+                            (4, "file[3], outside of its 3, was 3 and is 7"),
+                            (5, "file[-1], outside of its 3, was 255 and is 7")):
+            answer, written, faults = self.call(kind)
+            self.assertEqual((answer, faults), (2**64 - 1 - kind, [words]))
+            self.assertEqual(written["cells"][0], 33)
+        self.assertEqual(len(self.call(6, 0)[2]), 1)
+        self.assertEqual(GUARD, 9)
+
+    def test_calls(self):
+        self.assertTrue(self.linked.has("calculate"))
+        self.assertFalse(self.linked.has("series"))
+        with self.assertRaises(OSError):
+            library.Library(os.path.join(self.folder.name, "no-such.a"))
+
+    def run_program(self, *arguments, **settings):
+        command = [sys.executable, "-B", os.path.join(HERE, "compare_calls.py"), *arguments]
+        return subprocess.run(command, capture_output=True, text=True, check=False, env={**os.environ, **settings})
+
+    def test_program(self):
+        result = self.run_program("--library", self.object, "--count", "3", "series")
+        self.assertEqual((result.returncode, result.stdout), (2, ""))
+        self.assertEqual(result.stderr, "compare_calls.py: the library has no call kuldrepso_series\n")
+        for arguments in (["--count", "0"], ["--seed", "1", "--fresh"], ["no-such-call"], ["--library", "no-such.a"]):
+            result = self.run_program(*arguments)
+            self.assertEqual((result.returncode, result.stdout, result.stderr.count("\n")), (2, "", 1))
+
+    def test_program_without_compiler(self):
+        result = self.run_program(CC="no-such-compiler")
+        self.assertEqual((result.returncode, result.stderr), (0, ""))
+        self.assertEqual(result.stdout, "the calls of the library: not compared, no C compiler was found\n")
+
+    def test_signal(self):
+        text = ("import sys, library; linked = library.Library(sys.argv[1]); "
+                "sys.exit(library.in_child(lambda: linked.call('calculate', dict(file=bytes([7]), cells=1))))")
+        result = subprocess.run([sys.executable, "-B", "-c", text, self.object], cwd=HERE, capture_output=True, text=True,
+                                check=False)
+        self.assertEqual((result.returncode, result.stderr), (1, ""))
+        self.assertRegex(result.stdout, r"\Aended by signal \d+; the input of the call under way is saved as .*txt\n\Z")
+
+
+if __name__ == "__main__":
+    unittest.main()
