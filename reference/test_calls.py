@@ -101,7 +101,7 @@ class Inputs(unittest.TestCase):
                             ("close", [pair for pair in neighbours if pair[0] + 1 == pair[1]]),
                             ("2^32 - 1", [times for times in lists if 2**32 - 1 in times]),
                             ("2^32 - 1 last", [times for times in lists if times[-1:] == [2**32 - 1]])):
-            self.assertGreater(len(found), 5, word)
+            self.assertGreater(len(found), 2, word)
 
     def test_own_time_and_list(self):
         """Row 12 holds for the file's own time and not for the list, and the other way round."""
