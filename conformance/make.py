@@ -1,9 +1,9 @@
 #!/usr/bin/env python3
-"""Write the comparison kit, conformance/files: python3 conformance/make.py
+"""Write the comparison kit, conformance/files and conformance/calls: python3 conformance/make.py
 With --check, compare it with the stored one instead.
 
-Models come from fixed seeds and fields and from the table of edges.py, sheets from
-reference/calculator.py, so that every run writes the same files.
+Models come from fixed seeds and fields and from the table of edges.py, calls from call_cases.py, sheets and answers
+from reference/calculator.py, so that every run writes the same files.
 """
 
 import os
@@ -13,20 +13,15 @@ import sys
 sys.dont_write_bytecode = True
 HERE = os.path.dirname(os.path.abspath(__file__))
 FILES = os.path.join(HERE, "files")
+CALLS = os.path.join(HERE, "calls")
 sys.path.insert(0, HERE)
 sys.path.insert(0, os.path.join(os.path.dirname(HERE), "reference"))
 
+import call_cases  # noqa: E402
 import edges  # noqa: E402
 import models  # noqa: E402
 import stored  # noqa: E402
-
-A = bytes.fromhex("000F010101000027100000000100000005")
-B = bytes.fromhex("001B01020205F5E100000000010000000100000000000F4240000F4240")
-
-
-def put(file, start, size, value):
-    """The file with a number of `size` bytes written from byte `start`."""
-    return file[:start] + value.to_bytes(size, "big") + file[start + size:]
+from call_cases import A, B, put  # noqa: E402
 
 
 def hand_checked():
@@ -250,5 +245,14 @@ def all_files():
         yield from group()
 
 
+def main(arguments):
+    status = stored.main(arguments, FILES, all_files(), sys.stderr, sys.stdout)
+    if status == 2:
+        return status
+    texts = call_cases.texts()
+    count = sum(text.count(b"name ") for text in texts.values())
+    return max(status, stored.keep(bool(arguments), CALLS, texts, f"{count} calls", sys.stderr, sys.stdout))
+
+
 if __name__ == "__main__":
-    sys.exit(stored.main(sys.argv[1:], FILES, all_files(), sys.stderr, sys.stdout))
+    sys.exit(main(sys.argv[1:]))

@@ -7,6 +7,7 @@ Every second input is aimed at a row of the call's table, each row in its turn, 
 the others are put together by chance.
 """
 
+import copy
 import random
 from collections import Counter, namedtuple
 
@@ -29,10 +30,10 @@ ENOUGH = 32         # inputs from which on each row of a call's table is reached
 
 def outcome(program, call, given):
     """What a call gives by the reference (or a module like it): the answer, and what each written slice then holds."""
-    values = {each.name: painted(given[each.name], each.type) if each.written else given[each.name]
+    values = {each.name: painted(given[each.name], each.type) if each.written else copy.copy(given[each.name])
               for each in CALLS[call]}
     result = getattr(program, call)(*values.values())
-    return calculator.answer(result), {each.name: values[each.name] for each in CALLS[call] if each.written}
+    return program.answer(result), {each.name: values[each.name] for each in CALLS[call] if each.written}
 
 
 # --- Files --------------------------------------------------------------------------------------

@@ -1,4 +1,4 @@
-"""Model files with their sheets, written to a folder or held against what stands there."""
+"""Model files with their sheets, and other files that are made, written to a folder or held against what stands there."""
 
 import os
 
@@ -16,20 +16,25 @@ def contents(files):
     return result
 
 
+def endings(wanted):
+    """What the names of these files end with."""
+    return tuple({os.path.splitext(name)[1] for name in wanted})
+
+
 def write(folder, wanted):
-    """Writes every file, and removes models and sheets of an earlier run."""
+    """Writes every file, and removes those with such names of an earlier run."""
     os.makedirs(folder, exist_ok=True)
     for name, content in wanted.items():
         with open(os.path.join(folder, name), "wb") as target:
             target.write(content)
     for name in os.listdir(folder):
-        if name.endswith((".model", ".sheet")) and name not in wanted:
+        if name.endswith(endings(wanted)) and name not in wanted:
             os.remove(os.path.join(folder, name))
 
 
 def differences(folder, wanted):
-    """The names of models and sheets that are missing, changed or not wanted."""
-    there = {name for name in os.listdir(folder) if name.endswith((".model", ".sheet"))} if os.path.isdir(folder) else set()
+    """The names of files that are missing, changed or not wanted."""
+    there = {name for name in os.listdir(folder) if name.endswith(endings(wanted))} if os.path.isdir(folder) else set()
     result = sorted(there - set(wanted))
     for name, content in sorted(wanted.items()):
         if name not in there:
@@ -47,8 +52,13 @@ def main(arguments, folder, files, stderr, stdout):
         print("make.py: no argument to write the files, or --check to compare them", file=stderr)
         return 2
     wanted = contents(files)
-    count = f"{len(wanted) // 2} models with their sheets, {sum(map(len, wanted.values()))} bytes"
-    if arguments:
+    return keep(bool(arguments), folder, wanted, f"{len(wanted) // 2} models with their sheets", stderr, stdout)
+
+
+def keep(check, folder, wanted, what, stderr, stdout):
+    """Writes files to a folder, or compares them; the status."""
+    count = f"{what}, {sum(map(len, wanted.values()))} bytes"
+    if check:
         wrong = differences(folder, wanted)
         if wrong:
             print(f"make.py: {len(wrong)} stored files differ from the reference, the first is {wrong[0]}", file=stderr)

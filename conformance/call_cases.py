@@ -1,0 +1,346 @@
+"""The stored calls of the comparison kit: inputs of the library's calls, by name. make.py adds what the reference gives.
+
+A case of series is (name, file, times), with the level and block cells that it needs, or with given counts.
+"""
+
+import random
+
+import calculator
+import cases
+import edges
+import inputs
+import models
+from inputs import MAX_WORD, MAX_X, ROWS, Input
+
+A = bytes.fromhex("000F010101000027100000000100000005")
+B = bytes.fromhex("001B01020205F5E100000000010000000100000000000F4240000F4240")
+EIGHT = [1, 2, 3, 4, 5, 6, 7, 8]
+NINE = EIGHT + [9]
+
+
+def put(file, start, size, value):
+    """The file with a number of `size` bytes written from byte `start`."""
+    return file[:start] + value.to_bytes(size, "big") + file[start + size:]
+
+
+def own_time(file, T):
+    return put(file, 9, 4, T)
+
+
+def series(name, file, times, levels=None, cells=None):
+    """A call of series; where a count is not given, just what the list and the file need."""
+    size = inputs.need(file)
+    return Input(name, "series", dict(file=file, times=list(times), levels=len(times) if levels is None else levels,
+                                      cells=len(times) * size if cells is None else cells))
+
+
+def calculate(name, file, cells):
+    return Input(name, "calculate", dict(file=file, cells=cells))
+
+
+def three_states(R, T=1, tolerance=1_000):
+    return models.build(1, 3, R, tolerance, T, [999_983, 31, 500_000], [[70_001, 3], [90_007, 11], [0, 123_457]])
+
+
+def slow_pair(R=1, tolerance=1_000):
+    """E is 1: a time is the expected jump count in millionths."""
+    return models.build(1, 2, R, tolerance, 1, [3, 1], [[1], [0]])
+
+
+def states(M, R, E=1_000, tolerance=10_000_000):
+    """M states with a level that is quick for times up to 1,000."""
+    return models.build(**models.fields_for(random.Random(f"calls {M} {R}"), M, E, 1, R=R, eps=tolerance, fill=1.0))
+
+
+# --- Rows broken ------------------------------------------------------------------------------------
+
+# File B with one row broken, by the least that breaks it; row 1 cuts it to 12 bytes.
+BROKEN = {
+    1: lambda file: models.relength(file[:12]),
+    2: lambda file: file + b"\0",
+    3: lambda file: put(file, 2, 1, 2),
+    4: lambda file: put(file, 3, 1, 65),
+    5: lambda file: put(file, 4, 1, 9),
+    6: lambda file: models.relength(file + b"\0"),
+    7: lambda file: put(file, 5, 4, 100_000_001),
+    8: lambda file: own_time(file, 0),
+    9: lambda file: put(file, 17, 4, 1_000_001),
+    10: lambda file: put(file, 13, 8, 0),
+    11: lambda file: put(file, 21, 4, 10_000_001),
+}
+# A list that breaks this row, or these rows.
+LISTS = {
+    (): [1, 2], (8,): [0, 1], (14,): NINE, (15,): [2, 2], (12,): [1, MAX_X + 1],
+    (8, 14): [0] + EIGHT, (8, 15): [0, 0], (8, 12): [0, MAX_X + 1],
+    (14, 15): [1] * 9, (12, 14): EIGHT + [MAX_X + 1], (12, 15): [MAX_X + 1] * 2,
+}
+IMPOSSIBLE = {(1, 2), (1, 6), (1, 9), (1, 10), (1, 11), (9, 10), (4, 11)}   # (1, ..): 12 bytes hold no more than the time
+
+
+def broken(rows):
+    """The file with the rows up to 11 broken: the last first, since a broken length or cut goes over all else."""
+    file = B
+    for row in sorted(rows & BROKEN.keys(), reverse=True):
+        file = BROKEN[row](file)
+    return put(file, 3, 1, 0) if {4, 10} <= rows else file      # 65 states would read other rewards
+
+
+def series_rows():
+    """Every row of the table alone, then every two together: the first of the two is answered. Row 8 is that of the
+    file, 8-list that of the list."""
+    order = ROWS["series"]
+    for row in order:
+        yield series_breaking(f"refused-{row:02d}", {row})
+    yield series_breaking("refused-08-list", {8}, in_list=True)
+    for k, row in enumerate(order):
+        for later in order[k + 1:]:
+            if (row, later) in IMPOSSIBLE:
+                continue
+            name = f"refused-{row:02d}-before-{later:02d}"
+            yield series_breaking(name, {row, later})
+            if 8 in (row, later):
+                yield series_breaking(name.replace("08", "08-list"), {row, later}, in_list=True)
+
+
+def series_breaking(name, rows, in_list=False):
+    """A call that breaks these rows and no other (13: no cell of either slice)."""
+    listed = tuple(sorted(rows & ({8, 12, 14, 15} if in_list else {12, 14, 15})))
+    counts = (0, 0) if 13 in rows else (9, 36)
+    return series(name, broken(rows - {8} if in_list else rows), LISTS[listed], *counts)
+
+
+def series_row_8():
+    """The file's own time and the first listed time."""
+    yield series("refused-08-file-time-0-no-times", own_time(B, 0), [])
+    yield series("refused-08-both-times-0", own_time(B, 0), [0])
+    yield series("refused-08-first-time-0-alone", B, [0])
+    yield series("refused-08-first-time-0-of-9", B, [0] + EIGHT, 9, 36)
+    yield series("refused-08-first-two-times-0", B, [0, 0])
+    yield series("refused-08-first-time-0-last-largest", B, [0, MAX_WORD])
+    yield series("refused-08-first-time-0-own-time-late", own_time(B, 257), [0, 5])
+    yield series("refused-15-second-time-0", B, [1, 0])
+    yield series("refused-15-last-time-0", B, [1, 2, 3, 0])
+    yield series("refused-14-later-time-0-of-9", B, [1, 0] + EIGHT[:7], 9, 36)
+
+
+def series_row_14():
+    """No times, and more than 8."""
+    yield series("refused-14-no-times", B, [])
+    yield series("refused-14-no-times-cells-lent", B, [], 8, 32)
+    yield series("refused-14-no-times-own-time-late", own_time(B, 257), [], 8, 32)
+    yield series("refused-14-9-times", B, NINE)
+    yield series("refused-14-10-times", B, NINE + [10])
+    yield series("refused-14-16-times", B, range(1, 17))
+    yield series("refused-14-256-times", B, range(1, 257), 256, 1024)
+    yield series("refused-14-257-times", B, range(1, 258), 257, 1028)
+    yield series("refused-14-264-times", B, range(1, 265), 264, 1056)
+    yield series("refused-14-9-times-cells-of-8", B, NINE, 8, 32)
+    yield series("refused-14-9-times-first-8-equal", B, [1] * 8 + [2])
+    yield series("refused-14-9-times-last-late", B, range(249, 258))
+    yield series("border-8-times", B, EIGHT)
+    yield series("border-7-times", B, EIGHT[:7])
+    yield series("border-1-time", B, [1])
+
+
+def series_row_15():
+    """A time equal to the one before it, or below it, at every place of 8 and of 2."""
+    for place in range(1, 8):
+        for word, less in (("equal", 0), ("falling", 1)):
+            times = [10 * k for k in EIGHT]
+            times[place] = times[place - 1] - less
+            yield series(f"refused-15-{word}-at-{place + 1}", B, times)
+    yield series("refused-15-two-equal", B, [5, 5])
+    yield series("refused-15-two-falling", B, [2, 1])
+    yield series("refused-15-all-falling", B, EIGHT[::-1])
+    yield series("refused-15-all-equal", B, [7] * 8)
+    yield series("refused-15-past-2-31-then-1", slow_pair(), [2**31, 1])
+    yield series("refused-15-largest-then-1", slow_pair(), [MAX_WORD, 1])
+    yield series("refused-15-largest-twice", slow_pair(), [MAX_WORD, MAX_WORD])
+    yield series("refused-15-late-then-in-time", B, [257, 256])
+    yield series("refused-15-late-twice", B, [257, 257])
+    yield series("refused-15-above-all-but-the-last", B, [1, 5, 4, 6])
+    yield series("border-15-each-one-more", B, [249, 250, 251, 252, 253, 254, 255, 256])
+
+
+def series_row_12():
+    """E times the last time: 256,000,000 and the least above it, past 2^31 and 2^32, the file's own time late."""
+    rate = {E: models.build(1, 2, 1, 100_000_000, 1, [1, 0], [[E], [E // 2]])
+            for E in (1, 2, 3, 5_333, 2**16, 8_000_000, 10_000_000)}
+    for E, file in rate.items():
+        most = MAX_X // E
+        yield series(f"border-12-rate-{E}-last-{most}", file, [1, most])
+        yield series(f"refused-12-rate-{E}-last-{most + 1}", file, [1, most + 1])
+        yield series(f"refused-12-rate-{E}-only-{most + 1}", file, [most + 1])
+    yield series("border-12-B-last-256", B, [256])
+    yield series("refused-12-B-last-257", B, [1, 256, 257])
+    yield series("refused-12-two-late", B, [257, 258])
+    yield series("refused-12-all-late", B, range(257, 265))
+    yield series("refused-12-last-of-8", B, EIGHT[:7] + [257])
+    yield series("refused-12-product-2-31", rate[2**16], [1, 2**15])
+    yield series("refused-12-product-2-32", rate[2**16], [1, 2**16])
+    yield series("refused-12-product-4300000000", rate[10_000_000], [1, 430])
+    yield series("refused-12-last-2-31", rate[1], [1, 2**31])
+    yield series("refused-12-last-largest", rate[1], [1, MAX_WORD])
+    yield series("refused-12-last-largest-no-rates", A, [1, MAX_WORD])
+    yield series("refused-12-rate-10000000-last-largest", rate[10_000_000], [25, MAX_WORD])
+    yield series("refused-12-two-largest", A, [MAX_WORD - 1, MAX_WORD])
+    yield series("refused-12-own-time-1", own_time(B, 1), [2, 257])
+    yield series("border-12-no-rates", A, [1, MAX_X])
+    yield series("refused-12-no-rates", A, [1, MAX_X + 1])
+
+
+def series_own_time():
+    """The file's own time is checked at 8 and not used."""
+    for word, T in (("in-the-list", 2), ("before-the-list", 1), ("after-the-list", 200), ("just-late", 257),
+                    ("late", 300), ("past-2-31", 2**31), ("largest", MAX_WORD)):
+        yield series(f"own-time-{word}", own_time(B, T), [2, 3, 100])
+    yield series("own-time-late-list-longest", own_time(B, 257), [256])
+    yield series("refused-12-own-time-late-too", own_time(B, 257), [257])
+    yield series("own-time-late-1-state", own_time(A, MAX_WORD), [1, 2])
+
+
+def series_row_13():
+    """Level cells and block cells: one too few, none, enough for one block alone, more than enough."""
+    for word, file in (("B", B), ("A", A), ("3-states", three_states(8))):
+        size = inputs.need(file)
+        for times in ([3], [1, 4], EIGHT):
+            n, name = len(times), f"{word}-{len(times)}-times"
+            yield series(f"border-13-{name}", file, times)
+            yield series(f"border-13-{name}-one-more-each", file, times, n + 1, n * size + 1)
+            yield series(f"refused-13-{name}-a-level-less", file, times, n - 1, n * size)
+            yield series(f"refused-13-{name}-a-cell-less", file, times, n, n * size - 1)
+    for word, levels, cells in (("no-levels", 0, 64), ("no-cells", 64, 0), ("none-of-either", 0, 0),
+                                ("one-block-of-three", 3, 4), ("two-blocks-of-three", 3, 8), ("one-level-of-three", 1, 12),
+                                ("a-level-less-cells-more", 2, 64), ("a-cell-less-levels-more", 64, 11),
+                                ("counts-exchanged", 12, 3)):
+        yield series(f"refused-13-{word}", B, [1, 2, 3], levels, cells)
+    for word, levels, cells in (("levels-longer", 20, 12), ("cells-longer", 3, 40), ("both-longer", 20, 600)):
+        yield series(f"border-13-{word}", B, [1, 2, 3], levels, cells)
+    wide = states(4, 8)
+    yield series("border-13-256-cells", wide, EIGHT)
+    yield series("refused-13-256-cells-less-one", wide, EIGHT, 8, 255)
+    yield series("refused-13-256-cells-none", wide, EIGHT, 8, 0)
+
+
+# --- Levels and moments ---------------------------------------------------------------------------------
+
+def series_values():
+    """Levels and blocks over the range of models and times."""
+    yield series("hand-A", A, [1])
+    yield series("hand-B", B, [1])
+    yield series("hand-B-times-1-and-2", B, [1, 2])
+    yield series("hand-B-three-times-longer-slices", B, [1, 2, 256], 5, 20)
+    yield series("year-in-months", models.build(1, 3, 3, 10_000, 1_000, [2, 1, 0],
+                                                [[2_000, 0], [100_000, 1_000], [0, 100_000]]),
+                 [730, 1_460, 2_190])
+    for R in (1, 2, 8):
+        yield series(f"moments-{R}", three_states(R), [1, 10, 100, 1_000])
+        yield series(f"1-state-moments-{R}", models.build(1, 1, R, 1_000, 1, [5], [[]]), EIGHT[:7] + [MAX_X])
+    yield series("no-rates-3-states", models.build(1, 3, 2, 1_000, 1, [7, 0, 3], [[0, 0]] * 3), [1, 1_000, MAX_X])
+    yield series("spread-times", three_states(2, tolerance=1), [1, 3, 17, 60, 200, 700, 1_500, 2_000])
+    yield series("large-steps-and-small", B, [1, 2, 128, 129, 255, 256])
+    yield series("absorbing", models.build(1, 3, 3, 1_000, 1, [4, 2, 0], [[500_000, 7], [0, 300_000], [0, 0]]), [1, 2, 50])
+    for M, R, times in ((16, 3, [1, 500]), (64, 1, [1, 1_000]), (64, 8, EIGHT)):
+        yield series(f"states-{M}-moments-{R}", states(M, R), times)
+
+
+def series_levels():
+    """Close times, whose level stays or rises by one, and jump counts about whole numbers."""
+    yield series("levels-stay", slow_pair(), range(7_000_000, 7_000_008))
+    yield series("levels-stay-small", slow_pair(8), [1, 2, 3, 4])
+    yield series("levels-stay-wide-tolerance", slow_pair(2, 100_000_000), [100_000, 200_000, 300_000, 400_000])
+    for q in (1, 2, 9, 256):
+        last = [] if q == 256 else [q * 10**6 + 1]
+        yield series(f"whole-q-{q}", slow_pair(2), [q * 10**6 - 1, q * 10**6] + last)
+    for row in edges.LEVEL_ROWS[::4]:
+        X = row.rates[0][0] * row.T
+        file = models.build(1, 2, 1, row.epsilon, 1, [1, 0], [[1], [0]])
+        yield series(f"{row.name.replace('level-edge', 'level-rises-next-to')}", file, [X - 1, X, X + 1])
+
+
+def series_last_division():
+    """Files of the kit whose last division is at a half or next to it, with a second time."""
+    halves = [row for row in edges.DIGIT_ROWS if isinstance(row.holds[0], edges.Half)]
+    for row in halves[::3]:
+        file = models.build(**models.edge_fields(row))
+        most = inputs.longest_time(file)
+        other = [row.T + 1] if row.T < most else []
+        yield series(f"at-{row.name}", own_time(file, 1), [row.T] + other)
+
+
+def series_kinds():
+    """An accepted list for every small kind of model."""
+    for kind in models.SMALL_KINDS:
+        name = kind.__name__.replace("_", "-")
+        rng = random.Random(f"calls {name}")
+        file = models.build(**kind(rng))
+        while inputs.cost(dict(file=file, times=[inputs.longest_time(file)])) > inputs.CHEAP // 4:
+            file = models.build(**kind(rng))
+        yield series(f"valid-{name}", file, inputs.rising(rng, inputs.longest_time(file), rng.randint(2, 5)))
+
+
+SERIES = (series_values, series_rows, series_row_8, series_row_14, series_row_15, series_row_12, series_own_time,
+          series_row_13, series_levels, series_last_division, series_kinds)
+
+
+# --- Calculate: row 13 -------------------------------------------------------------------------------------
+
+def calculate_row_13():
+    """Too few cells, just enough, and more; for every highest moment, and for 1 to 32 states."""
+    models_of = [("A", A), ("B", B)] + [(f"3-states-moments-{R}", three_states(R)) for R in range(1, 9)]
+    models_of += [(f"{M}-states-moments-{R}", states(M, R)) for M, R in ((8, 1), (9, 8), (32, 8))]
+    for word, file in models_of:
+        size = inputs.need(file)
+        yield calculate(f"border-13-{word}", file, size)
+        yield calculate(f"refused-13-{word}-one-less", file, size - 1)
+        if size < 256:
+            yield calculate(f"border-13-{word}-one-more", file, size + 1)
+    for cells in range(4):
+        yield calculate(f"refused-13-B-{cells}-cells", B, cells)
+    for cells in (5, 16, 511, 512, 513):
+        yield calculate(f"border-13-B-{cells}-cells", B, cells)
+    yield calculate("refused-13-3-states-moments-8-no-cells", three_states(8), 0)
+
+
+def calculate_before_13():
+    """Every earlier row with too few cells."""
+    for row in ROWS["calculate"][:12]:
+        file = BROKEN[row](B) if row < 12 else own_time(B, 257)
+        for cells in (0, 3):
+            yield calculate(f"refused-{row:02d}-before-13-{cells}-cells", file, cells)
+    yield calculate("refused-01-before-13-empty", b"", 0)
+
+
+CALCULATE = (calculate_row_13, calculate_before_13)
+
+GROUPS = {"calculate": CALCULATE, "series": SERIES}
+
+
+def named(call):
+    """The inputs of a call; a ValueError where two have the same name."""
+    result = {}
+    for group in GROUPS[call]:
+        for each in group():
+            if each.name in result:
+                raise ValueError(f"two calls of {call} are named {each.name}")
+            result[each.name] = each
+    return list(result.values())
+
+
+def row_named(name):
+    """The row that a name tells, or 0, for an accepted call."""
+    word, _, rest = name.partition("-")
+    return int(rest[:2]) if word == "refused" else 0
+
+
+def case(each):
+    """The case of an input with what the reference gives; a ValueError where its name tells another row."""
+    result = inputs.outcome(calculator, each.call, each.given)
+    if inputs.row_of(result[0]) != row_named(each.name):
+        raise ValueError(f"{each.call} {each.name}: the reference answers {result[0]}")
+    return cases.case(*each, result)
+
+
+def texts():
+    """{file name: bytes} of the stored calls."""
+    return {f"{call}.txt": cases.text(map(case, named(call))).encode("ascii") for call in GROUPS}
