@@ -216,6 +216,10 @@ def series_row_13():
         yield series(f"refused-13-{word}", B, [1, 2, 3], levels, cells)
     for word, levels, cells in (("levels-longer", 20, 12), ("cells-longer", 3, 40), ("both-longer", 20, 600)):
         yield series(f"border-13-{word}", B, [1, 2, 3], levels, cells)
+    for row, times in ((14, NINE), (15, [3, 3]), (12, [1, 257])):
+        n = len(times)
+        yield series(f"refused-{row}-a-level-less", B, times, n - 1, 4 * n)
+        yield series(f"refused-{row}-a-cell-less", B, times, n, 4 * n - 1)
     wide = states(4, 8)
     yield series("border-13-256-cells", wide, EIGHT)
     yield series("refused-13-256-cells-less-one", wide, EIGHT, 8, 255)
@@ -247,6 +251,8 @@ def series_values():
 def series_levels():
     """Close times, whose level stays or rises by one, and jump counts about whole numbers."""
     yield series("levels-stay", slow_pair(), range(7_000_000, 7_000_008))
+    yield series("first-time-65536", slow_pair(), [2**16, 2**16 + 1])
+    yield series("first-time-16777216", slow_pair(), [2**24, 2**24 + 1])
     yield series("levels-stay-small", slow_pair(8), [1, 2, 3, 4])
     yield series("levels-stay-wide-tolerance", slow_pair(2, 100_000_000), [100_000, 200_000, 300_000, 400_000])
     for q in (1, 2, 9, 256):
@@ -300,6 +306,7 @@ def calculate_row_13():
     for cells in (5, 16, 511, 512, 513):
         yield calculate(f"border-13-B-{cells}-cells", B, cells)
     yield calculate("refused-13-3-states-moments-8-no-cells", three_states(8), 0)
+    yield calculate("refused-13-32-states-moments-8-no-cells", states(32, 8), 0)
 
 
 def calculate_before_13():

@@ -55,10 +55,10 @@ def changed_text(text, entry):
     return text
 
 
-def module(entry):
+def module(entry, helpers=mistakes.HELPERS):
     """The entry's calculator as a module: its sheet(file) is what it prints."""
     result = types.ModuleType(entry.name)
-    for helper in mistakes.HELPERS:
+    for helper in helpers:
         setattr(result, helper.__name__, helper)
     try:
         exec(compile(changed_text(reference_text(), entry), entry.name, "exec"), result.__dict__)

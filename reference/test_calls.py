@@ -18,10 +18,15 @@ import calculator  # noqa: E402
 import compare_calls  # noqa: E402
 import inputs  # noqa: E402
 import library  # noqa: E402
+import call_mistakes  # noqa: E402
+import call_mutants  # noqa: E402
 import cases  # noqa: E402
+import run_calls  # noqa: E402
 from library import GUARD, PAINT  # noqa: E402
 
 B = bytes.fromhex("001B01020205F5E100000000010000000100000000000F4240000F4240")
+
+RUN_CALLS = os.path.join("..", "conformance", "run_calls.py")
 
 # A library that goes wrong in the way that the file's first byte tells.
 WRONG_LIBRARY = r"""
@@ -148,6 +153,32 @@ class Cases(unittest.TestCase):
             "\nname none\ncall series\nfile\ntimes\nlevels_lent 2\ncells_lent 5\nanswer 1000001\n"))
 
 
+class Kit(unittest.TestCase):
+    """The stored calls of conformance/calls, and the wrong calls that they have to catch."""
+
+    def test_every_row_is_stored(self):
+        for call, rows in inputs.ROWS.items():
+            answers_stored = [each.answer for each in run_calls.stored() if each.call == call]
+            self.assertGreater(min(inputs.tally(call, answers_stored).values()), 1, call)
+            self.assertEqual(set(map(inputs.row_of, answers_stored)), {0, *rows})
+
+    def test_form(self):
+        for name in os.listdir(run_calls.CALLS):
+            with open(os.path.join(run_calls.CALLS, name), encoding="ascii", newline="") as source:
+                content = source.read()
+            self.assertRegex(content, r"\A(name [a-z0-9AB-]+\n([a-z_]+( [0-9A-F]+)*\n|call [a-z]+\n)+\n?)+\Z", name)
+            self.assertFalse(content.endswith("\n\n"), name)
+            self.assertEqual(cases.text(cases.read(content)), content, name)
+
+    def test_wrong_calls(self):
+        kit = [each for each in run_calls.stored() if each.call == "series"][:100]
+        self.assertEqual(call_mutants.catches(call_mistakes.RIGHT, kit), [])
+        for entry, enough in ((call_mistakes.TABLE["series"]["answer-0"], True), (call_mistakes.EQUIVALENT[0], False)):
+            with contextlib.redirect_stdout(io.StringIO()) as said:
+                self.assertEqual(call_mutants.judge("series", entry, kit), enough)
+            self.assertEqual("caught by none: fewer than two" in said.getvalue(), not enough)
+
+
 class Comparison(unittest.TestCase):
 
     def compare(self, linked, count=40, draw=inputs.series_inputs):
@@ -236,8 +267,8 @@ class Library(unittest.TestCase):
         with self.assertRaises(OSError):
             library.Library(os.path.join(self.folder.name, "no-such.a"))
 
-    def run_program(self, *arguments, **settings):
-        command = [sys.executable, "-B", os.path.join(HERE, "compare_calls.py"), *arguments]
+    def run_program(self, *arguments, name="compare_calls.py", **settings):
+        command = [sys.executable, "-B", os.path.join(HERE, name), *arguments]
         return subprocess.run(command, capture_output=True, text=True, check=False, env={**os.environ, **settings})
 
     def test_program(self):
@@ -248,10 +279,22 @@ class Library(unittest.TestCase):
             result = self.run_program(*arguments)
             self.assertEqual((result.returncode, result.stdout, result.stderr.count("\n")), (2, "", 1))
 
-    def test_program_without_compiler(self):
-        result = self.run_program(CC="no-such-compiler")
-        self.assertEqual((result.returncode, result.stderr), (0, ""))
-        self.assertEqual(result.stdout, "the calls of the library: not compared, no C compiler was found\n")
+    def test_programs_without_compiler(self):
+        for name, words in (("compare_calls.py", "the calls of the library: not compared"),
+                            (RUN_CALLS, "the stored calls: not run")):
+            result = self.run_program(name=name, CC="no-such-compiler")
+            self.assertEqual((result.returncode, result.stderr), (0, ""))
+            self.assertEqual(result.stdout, f"{words}, no C compiler was found\n")
+
+    def test_run_calls(self):
+        stored = os.path.join(run_calls.CALLS, "calculate.txt")
+        result = self.run_program("--library", self.object, stored, name=RUN_CALLS)
+        self.assertEqual((result.returncode, result.stderr), (1, ""))
+        self.assertRegex(result.stdout, r"\Acalculate border-13-A: answer: expected 1, got \d+\n")
+        self.assertRegex(result.stdout, r"\ncomparison kit: 0 calls passed, \d+ failed\n\Z")
+        for arguments in (["--library", self.object], ["no-such-file"], ["--wrong"]):
+            result = self.run_program(*arguments, name=RUN_CALLS)
+            self.assertEqual((result.returncode, result.stderr.count("\n")), (2, 1))
 
     def test_signal(self):
         text = ("import sys, library; linked = library.Library(sys.argv[1]); "

@@ -530,6 +530,24 @@ class Series(unittest.TestCase):
             rises += levels[0] < levels[2]
         self.assertGreater(rises, 5)
 
+    def test_level_does_not_fall(self):
+        """Where t meets its bound at n, t less its bound rises from X to X + 1: so the level never falls as the time rises."""
+        def miss(X):
+            w = calculator.weights(X, n)
+            return calculator.tail(w, X, n) - sum(w) * epsilon // 10**9
+
+        rng = random.Random(33)
+        for _ in range(150):
+            n, epsilon = rng.randint(2, 358), rng.choice([1, 1, 1, 2, rng.randint(3, 1_000)])
+            low, high = 1, min(n * 10**6, 256_000_000)
+            if miss(low) > 0 or miss(high) <= 0:
+                continue
+            while high - low > 1:
+                middle = (low + high) // 2
+                low, high = (middle, high) if miss(middle) <= 0 else (low, middle)
+            misses = [miss(X) for X in range(max(1, low - 3), low + 5)]
+            self.assertGreater(min(b - a for a, b in zip(misses, misses[1:])), 5, (n, epsilon, low))
+
     def test_vectors_once(self):
         with mock.patch.object(calculator, "next_vectors", wraps=calculator.next_vectors) as watched:
             levels, _ = self.blocks(B, [1, 2, 100, 256])

@@ -1,0 +1,96 @@
+#!/usr/bin/env python3
+"""Wrong calls against the stored ones: does the kit tell each of them?
+
+    python3 conformance/call_mutants.py       a line for each, with the first two stored calls that catch it
+
+The wrong calls stand in call_mistakes.py, each the reference with one thing changed. A stored call catches one that
+answers something else, leaves another number in an element of a slice, or is stopped by its numbers. Exit status: 0 when
+two stored calls or more catch each, 1 when not, 2 when the run is not possible.
+"""
+
+import os
+import sys
+
+sys.dont_write_bytecode = True
+HERE = os.path.dirname(os.path.abspath(__file__))
+sys.path[:0] = [HERE, os.path.join(os.path.dirname(HERE), "reference")]
+
+import call_mistakes  # noqa: E402
+import cases  # noqa: E402
+import inputs  # noqa: E402
+import mutants  # noqa: E402
+import run_calls  # noqa: E402
+import runner  # noqa: E402
+from call_mistakes import EQUIVALENT, RIGHT, TABLE  # noqa: E402
+
+ENOUGH = 2        # stored calls that have to catch a wrong one
+
+
+def cost(each):
+    """About the work for a case: the multiplications of its vectors, and its bytes."""
+    file = each.given["file"]
+    return inputs.cost(each.given) if each.answer < 10**6 else 0, len(file)
+
+
+def caught(program, each):
+    """Whether a case catches a wrong program."""
+    try:
+        return inputs.outcome(program, each.call, each.given) != cases.expected(each)
+    except mutants.STOPPED:
+        return True
+    except Exception as error:
+        raise ValueError(f"{program.__name__}: its text is wrong, not its numbers: {error}") from error
+
+
+def catches(entry, kit, enough=ENOUGH):
+    """The names of the stored calls that catch the entry, up to `enough`."""
+    program = mutants.module(entry, call_mistakes.HELPERS)
+    found = []
+    for each in kit:
+        if len(found) < enough and caught(program, each):
+            found.append(each.name)
+    return found
+
+
+def judge(call, entry, kit):
+    """Prints the entry's line; whether enough stored calls catch it."""
+    found = catches(entry, kit)
+    line = f"{call} {entry.name}: caught by {' and '.join(found) or 'none'}"
+    print(line if len(found) >= ENOUGH else f"{line}: fewer than two ({entry.what})", flush=True)
+    return len(found) >= ENOUGH
+
+
+def judge_equivalent(entry, kit):
+    """Prints why no call can show the change; whether that is so for the stored ones."""
+    found = catches(entry, kit, 1)
+    print(f"series {entry.name}: " + (f"yet {found[0]} catches it" if found else f"left out, no call can show it: {entry.what}"))
+    return not found
+
+
+def main(arguments):
+    if arguments:
+        print("call_mutants.py: takes no argument", file=sys.stderr)
+        return 2
+    stored = sorted(run_calls.stored(), key=cost)
+    kits = {call: [each for each in stored if each.call == call] for call in TABLE}
+    try:
+        bad = [call for call, kit in kits.items() if catches(RIGHT, kit)]
+        for call in bad:
+            print(f"{call}: a stored call catches the reference itself")
+        wrong = [entry.name for call, table in TABLE.items() for entry in table.values() if not judge(call, entry, kits[call])]
+        same = [entry.name for entry in EQUIVALENT if not judge_equivalent(entry, kits["series"])]
+    except ValueError as error:        # a text of call_mistakes.py that is wrong
+        print(f"call_mutants.py: {error}", file=sys.stderr)
+        return 2
+    total = sum(map(len, TABLE.values()))
+    if wrong:
+        print(f"{len(wrong)} of {total} wrong calls are caught by fewer than two stored calls: {', '.join(wrong)}")
+    if same:
+        print(f"{len(same)} of {len(EQUIVALENT)} changes that no call can show are caught: {', '.join(same)}")
+    if not (bad or wrong or same):
+        print(f"{total} wrong calls, each caught by two stored calls or more; {len(EQUIVALENT)} changes left out")
+    return 1 if bad or wrong or same else 0
+
+
+if __name__ == "__main__":
+    runner.leave(main, sys.argv[1:])
