@@ -345,7 +345,7 @@ def case(each):
     result = inputs.outcome(calculator, each.call, each.given)
     if inputs.row_of(result[0]) != row_named(each.name):
         raise ValueError(f"{each.call} {each.name}: the reference answers {result[0]}")
-    return cases.case(*each, result)
+    return cases.case(*each, result, inputs.outcome(calculator, each.call, each.given, other=True))
 
 
 def texts():

@@ -17,18 +17,24 @@ from library import CALLS, painted  # noqa: E402
 Case = namedtuple("Case", "name call given answer written")
 
 
-def changed(elements, kind):
-    """The elements up to the last that is not as it was."""
-    before = painted(len(elements), kind)
-    last = max((k for k, pair in enumerate(zip(elements, before), 1) if pair[0] != pair[1]), default=0)
-    return elements[:last]
+def last_changed(elements, before):
+    """How many elements there are up to the last that is not as it was."""
+    return max((k for k, (new, old) in enumerate(zip(elements, before), 1) if new != old), default=0)
 
 
-def case(name, call, given, result):
-    """The case of an input and what the call gives: its answer, and each written slice as a whole."""
-    answer, written = result
-    parts = {each.name: changed(written[each.name], each.type) for each in CALLS[call] if each.written}
-    return Case(name, call, given, answer, {key: part for key, part in parts.items() if part})
+def case(name, call, given, result, other=None):
+    """The case of an input and what the call gives: its answer, and each written slice as a whole. `other` is what it
+    gives where the slices hold other numbers beforehand: an element may be written with the very number that it has."""
+    written = {}
+    for each in CALLS[call]:
+        if each.written:
+            elements = result[1][each.name]
+            count = last_changed(elements, painted(len(elements), each.type))
+            if other:
+                count = max(count, last_changed(other[1][each.name], painted(len(elements), each.type, 0, True)))
+            if count:
+                written[each.name] = elements[:count]
+    return Case(name, call, given, result[0], written)
 
 
 def expected(each):
@@ -114,4 +120,4 @@ def trouble(linked, each):
     under target/."""
     save(each, library.UNDER_WAY)
     answer, written, faults = linked.call(each.call, each.given)
-    return "; ".join(filter(None, [library.difference(expected(each), (answer, written)), *faults[:1]]))
+    return "; ".join(filter(None, [library.difference(each.call, expected(each), (answer, written)), *faults[:1]]))

@@ -3,8 +3,8 @@
 calculate_inputs(seed, count)  files, valid and damaged, with counts of cells about the border of row 13
 series_inputs(seed, count)     files with lists of times, and counts of level and block cells
 
-Every second input is aimed at a row of the call's table, each row in its turn, and breaks some later rows as well;
-the others are put together by chance.
+A third of the inputs is aimed at a row of the call's table, each row in its turn, and breaks some later rows as well; a
+third is accepted; the others are put together by chance.
 """
 
 import copy
@@ -25,12 +25,13 @@ ROWS = {
     "series": [*range(1, 12), 14, 15, 12, 13],
 }
 CHEAP = 200_000     # multiplications of the vectors of one input
-ENOUGH = 32         # inputs from which on each row of a call's table is reached
+ENOUGH = 45         # inputs from which on each row of a call's table is reached
 
 
-def outcome(program, call, given):
-    """What a call gives by the reference (or a module like it): the answer, and what each written slice then holds."""
-    values = {each.name: painted(given[each.name], each.type) if each.written else copy.copy(given[each.name])
+def outcome(program, call, given, other=False):
+    """What a call gives by the reference (or a module like it): the answer, and what each written slice then holds. With
+    `other` the slices hold other numbers beforehand."""
+    values = {each.name: painted(given[each.name], each.type, 0, other) if each.written else copy.copy(given[each.name])
               for each in CALLS[call]}
     result = getattr(program, call)(*values.values())
     return program.answer(result), {each.name: values[each.name] for each in CALLS[call] if each.written}
@@ -60,6 +61,10 @@ def any_file(rng):
     return models.build(**rng.choice(models.SMALL_KINDS)(rng))
 
 
+def own_time(file):
+    return calculator.number(file, 9, 4)
+
+
 def with_time(file, T):
     """The file with another time, where it has one."""
     return file[:9] + T.to_bytes(4, "big") + file[13:] if len(file) >= 13 else file
@@ -67,7 +72,7 @@ def with_time(file, T):
 
 def longest_time(file):
     """The longest time that row 12 lets pass; that of E = 1 where no rates can be read, or row 11 holds."""
-    if calculator.refusal(file, models.MAX_WORD) in range(1, 12):
+    if calculator.refusal(file, calculator.LENT_CELLS) in range(1, 12):
         return MAX_X
     return MAX_X // calculator.read_model(file).E
 
@@ -143,13 +148,9 @@ def list_of_times(rng, most, rows):
 
 # --- Inputs of series ---------------------------------------------------------------------------------
 
-def own_time(rng, file):
-    """The file's own time, of which 8 alone judges: one that 12 would not let pass, or any."""
-    return rng.choice([number_at_9(file), MAX_WORD, longest_time(file) + 1, 1])
-
-
-def number_at_9(file):
-    return calculator.number(file, 9, 4)
+def another_time(rng, file):
+    """For the file's own time, which 8 alone judges: it itself, late ones, and 1."""
+    return rng.choice([own_time(file), MAX_WORD, longest_time(file) + 1, 1])
 
 
 def aimed_series(rng, row):
@@ -160,7 +161,7 @@ def aimed_series(rng, row):
     in_file = rows & set(range(1, 12)) - in_list
     file = models.breaking(rng, base_fields(rng), in_file)
     if len(file) >= 13 and 8 not in in_file:
-        file = with_time(file, own_time(rng, file))
+        file = with_time(file, another_time(rng, file))
     times = list_of_times(rng, longest_time(file), in_list)
     enough = max(1, len(times)), max(1, len(times) * need(file))
     if 13 in rows:
@@ -175,7 +176,7 @@ def any_series(rng):
     """An input of chance."""
     file = any_file(rng)
     if len(file) >= 13 and rng.random() < 0.5:
-        file = with_time(file, own_time(rng, file))
+        file = with_time(file, another_time(rng, file))
     broken = {row for row, share in ((8, 0.05), (14, 0.1), (15, 0.1), (12, 0.1)) if rng.random() < share}
     times = list_of_times(rng, longest_time(file), broken)
     enough = max(1, len(times)), max(1, len(times) * need(file))
@@ -212,23 +213,21 @@ def cost(given):
     """About the work of the reference for an input: the multiplications of its vectors."""
     file = given["file"]
     longest = longest_time(file)
-    if calculator.refusal(file, models.MAX_WORD) not in (0, 12):
+    if calculator.refusal(file, calculator.LENT_CELLS) not in (0, 12):
         return 0
-    T = max(given.get("times", [number_at_9(file)]), default=0)
+    T = max(given.get("times", [own_time(file)]), default=0)
     q = calculator.read_model(file).E * min(T, longest) // 10**6
     return (q + 100) * file[3]**2 * file[4]
 
 
 def mixed(call, seed, count, aimed, by_chance):
-    """Aimed inputs, each row in its turn with row 0 between them, and inputs of chance, in turn."""
+    """Inputs aimed at a row, each in its turn, accepted ones, and inputs of chance, in turn."""
     rng = random.Random(f"{call} {seed}")
-    order = [0, *ROWS[call]]
     for index in range(count):
-        if index % 2:
-            name, make = "by-chance", by_chance
-        else:
-            row = order[index // 2 % len(order)]
-            name, make = f"row-{row:02d}" if row else "accepted", lambda rng, row=row: aimed(rng, row)
+        row = ROWS[call][index // 3 % len(ROWS[call])]
+        name, make = ((f"row-{row:02d}", lambda rng, row=row: aimed(rng, row)),
+                      ("accepted", lambda rng: aimed(rng, 0)),
+                      ("by-chance", by_chance))[index % 3]
         given = make(rng)
         while cost(given) > CHEAP:
             given = make(rng)
@@ -242,7 +241,7 @@ def calculate_inputs(seed, count):
 def series_inputs(seed, count):
     """Every 150th input has 64 states."""
     for index, each in enumerate(mixed("series", seed, count, aimed_series, any_series)):
-        if index % 150 == 99:
+        if index % 150 == 100:
             rng = random.Random(f"large {seed} {index}")
             each = Input(f"{index:05d}-64-states", "series", large_series(rng))
         yield each

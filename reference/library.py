@@ -45,10 +45,10 @@ CALLS = {
 }
 
 
-def painted(count, kind="u64", first=0):
-    """What `count` elements hold beforehand, each a number of its own."""
-    bits = 8 * ctypes.sizeof(TYPES[kind])
-    return [(PAINT + k) % 2**bits for k in range(first, first + count)]
+def painted(count, kind="u64", first=0, other=False):
+    """What `count` elements hold beforehand, each a number of its own; or others, different at every place."""
+    most = 2 ** (8 * ctypes.sizeof(TYPES[kind])) - 1
+    return [(PAINT + k ^ (most if other else 0)) & most for k in range(first, first + count)]
 
 
 # --- The shared object --------------------------------------------------------------------------
@@ -164,13 +164,13 @@ def in_child(main):
     return 1 if status < 0 else status
 
 
-def difference(expected, got):
+def difference(call, expected, got):
     """The first difference between two results of a call, (answer, written slices), in words, or an empty word."""
     if expected[0] != got[0]:
         return f"answer: expected {expected[0]}, got {got[0]}"
-    for name, cells in expected[1].items():
-        for place, (old, new) in enumerate(zip(cells, got[1][name])):
+    for name, kind in ((each.name, each.type) for each in CALLS[call] if each.written):
+        for place, (old, new) in enumerate(zip(expected[1][name], got[1][name])):
             if old != new:
-                was = " (as it was)" if old == PAINT + place else ""
+                was = " (as it was)" if [old] == painted(1, kind, place) else ""
                 return f"{name}[{place}]: expected {old}{was}, got {new}"
     return ""

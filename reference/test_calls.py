@@ -45,7 +45,12 @@ uint64_t kuldrepso_calculate(uint8_t *file, size_t file_length, uint64_t *cells,
     if (cell_count > 0) cells[0] = 10 * file_length + cell_count;
     return UINT64_C(0xFFFFFFFFFFFFFFFF) - file[0];
 }
+uint64_t kuldrepso_probe(uint32_t number, uint8_t *out, size_t out_count) {
+    if (out_count > 1) out[0] = 200, out[1] = (uint8_t)number;
+    return number + out_count;
+}
 """
+PROBE = dict(probe=library.parameters("number:u32 out:u8[]*"))
 
 
 def given_all(seed, count, call="series"):
@@ -79,14 +84,14 @@ class Inputs(unittest.TestCase):
 
     def test_each_row_is_reached(self):
         for call in library.CALLS:
-            self.assertGreater(min(inputs.tally(call, answers(call, 3, 300)).values()), 7, call)
+            self.assertGreater(min(inputs.tally(call, answers(call, 3, 300)).values()), 5, call)
             for seed in range(20, 22):
                 self.assertTrue(all(inputs.tally(call, answers(call, seed, inputs.ENOUGH)).values()), call)
 
     def test_rows_are_those_of_the_papers(self):
         self.assertEqual(inputs.ROWS["calculate"], list(range(1, 14)))
         self.assertEqual(inputs.ROWS["series"], [1, 2, 3, 4, 5, 6, 7, 8, 9, 10, 11, 14, 15, 12, 13])
-        self.assertGreaterEqual(inputs.ENOUGH, 2 * (1 + max(map(len, inputs.ROWS.values()))))
+        self.assertGreaterEqual(inputs.ENOUGH, 3 * max(map(len, inputs.ROWS.values())))
 
     def test_same_seed_same_inputs(self):
         for call in library.CALLS:
@@ -141,6 +146,17 @@ class Cases(unittest.TestCase):
             for each in made:
                 self.assertEqual(cases.expected(each), inputs.outcome(calculator, call, each.given))
 
+    def test_element_written_with_the_number_that_it_has(self):
+        with mock.patch.dict(library.CALLS, PROBE):
+            result = (13, {"out": [200, 1, 2, 3]})
+            other = (13, {"out": [200, 1, *library.painted(2, "u8", 2, True)]})
+            self.assertEqual(cases.case("a", "probe", dict(number=1, out=4), result).written, {"out": [200]})
+            made = cases.case("a", "probe", dict(number=1, out=4), result, other)
+            self.assertEqual(made.written, {"out": [200, 1]})
+            self.assertEqual(cases.text([made]), "name a\ncall probe\nnumber 1\nout_lent 4\nanswer 13\nout C801\n")
+            self.assertEqual(cases.read(cases.text([made])), [made])
+            self.assertEqual(cases.expected(made), result)
+
     def test_text(self):
         given = dict(file=B, times=[1], levels=2, cells=5)
         made = cases.case("B", "series", given, inputs.outcome(calculator, "series", given))
@@ -181,7 +197,7 @@ class Kit(unittest.TestCase):
 
 class Comparison(unittest.TestCase):
 
-    def compare(self, linked, count=40, draw=inputs.series_inputs):
+    def compare(self, linked, count=50, draw=inputs.series_inputs):
         """The status of a comparison, and what it prints; files go to a folder of their own."""
         with tempfile.TemporaryDirectory() as folder, contextlib.redirect_stdout(io.StringIO()) as said:
             with mock.patch.multiple(library, FOLDER=folder, UNDER_WAY=os.path.join(folder, "under-way")):
@@ -193,7 +209,7 @@ class Comparison(unittest.TestCase):
     def test_equal(self):
         status, said, saved = self.compare(Reference())
         self.assertEqual((status, saved), (0, []))
-        self.assertRegex(said, r"\Acompared 40 inputs of series, seed 7: all equal \(accepted \d+; refused 1: \d+, .*\)\n\Z")
+        self.assertRegex(said, r"\Acompared 50 inputs of series, seed 7: all equal \(accepted \d+; refused 1: \d+, .*\)\n\Z")
 
     def test_different(self):
         def one_more(answer, written):
@@ -203,8 +219,8 @@ class Comparison(unittest.TestCase):
 
         status, said, saved = self.compare(Reference(one_more))
         self.assertEqual((status, len(saved)), (1, 1))
-        self.assertRegex(said, r"\Aseries 00000-accepted: levels\[\d\]: expected \d+, got \d+\ninput 1 of 40 differs, seed 7; "
-                               r"it is saved as .*difference-seed7-series-00000-accepted.txt\n\Z")
+        self.assertRegex(said, r"\Aseries 00001-accepted: levels\[\d\]: expected \d+, got \d+\ninput 2 of 50 differs, seed 7; "
+                               r"it is saved as .*difference-seed7-series-00001-accepted.txt\n\Z")
 
     def test_a_row_never_reached_is_told(self):
         for row in (0, 8, 12, 14):
@@ -223,7 +239,7 @@ class Comparison(unittest.TestCase):
                            ((4, {"cells": [1, *was[1:]]}), "answer: expected 3, got 4"),
                            ((3, {"cells": [2, *was[1:]]}), "cells[0]: expected 1, got 2"),
                            ((3, {"cells": [1, was[1], 5]}), f"cells[2]: expected {PAINT + 2} (as it was), got 5")):
-            self.assertEqual(library.difference((3, {"cells": [1, *was[1:]]}), got), words)
+            self.assertEqual(library.difference("calculate", (3, {"cells": [1, *was[1:]]}), got), words)
 
 
 @unittest.skipIf(library.why_not(), library.why_not())
@@ -260,6 +276,11 @@ class Library(unittest.TestCase):
             self.assertEqual(written["cells"][0], 33)
         self.assertEqual(len(self.call(6, 0)[2]), 1)
         self.assertEqual(GUARD, 9)
+
+    def test_numbers_and_bytes(self):
+        with mock.patch.dict(library.CALLS, PROBE):
+            got = self.linked.call("probe", dict(number=9, out=4))
+        self.assertEqual(got, (13, {"out": [200, 9, 2, 3]}, []))
 
     def test_calls(self):
         self.assertTrue(self.linked.has("calculate"))
