@@ -1,6 +1,6 @@
-"""The stored calls of the comparison kit: inputs of the library's calls, by name. make.py adds what the reference gives.
+"""The stored calls of the comparison kit: inputs of the library's calls, by name, and what the reference gives.
 
-A case of series is (name, file, times), with the level and block cells that it needs, or with given counts.
+A name that begins with refused-NN tells the row that is answered; the others are accepted.
 """
 
 import random
@@ -74,7 +74,8 @@ LISTS = {
     (8, 14): [0] + EIGHT, (8, 15): [0, 0], (8, 12): [0, MAX_X + 1],
     (14, 15): [1] * 9, (12, 14): EIGHT + [MAX_X + 1], (12, 15): [MAX_X + 1] * 2,
 }
-IMPOSSIBLE = {(1, 2), (1, 6), (1, 9), (1, 10), (1, 11), (9, 10), (4, 11)}   # (1, ..): 12 bytes hold no more than the time
+# Rows that file B does not break together: 12 bytes hold no rewards and rates, 65 states leave no room for rates.
+IMPOSSIBLE = {(1, 2), (1, 6), (1, 9), (1, 10), (1, 11), (9, 10), (4, 11)}
 
 
 def broken(rows):
@@ -210,9 +211,9 @@ def series_row_13():
             yield series(f"refused-13-{name}-a-level-less", file, times, n - 1, n * size)
             yield series(f"refused-13-{name}-a-cell-less", file, times, n, n * size - 1)
     for word, levels, cells in (("no-levels", 0, 64), ("no-cells", 64, 0), ("none-of-either", 0, 0),
-                                ("one-block-of-three", 3, 4), ("two-blocks-of-three", 3, 8), ("one-level-of-three", 1, 12),
-                                ("a-level-less-cells-more", 2, 64), ("a-cell-less-levels-more", 64, 11),
-                                ("counts-exchanged", 12, 3)):
+                                ("one-block-of-three", 3, 4), ("two-blocks-of-three", 3, 8),
+                                ("one-level-of-three", 1, 12), ("counts-exchanged", 12, 3),
+                                ("a-level-less-cells-more", 2, 64), ("a-cell-less-levels-more", 64, 11)):
         yield series(f"refused-13-{word}", B, [1, 2, 3], levels, cells)
     for word, levels, cells in (("levels-longer", 20, 12), ("cells-longer", 3, 40), ("both-longer", 20, 600)):
         yield series(f"border-13-{word}", B, [1, 2, 3], levels, cells)
@@ -243,7 +244,8 @@ def series_values():
     yield series("no-rates-3-states", models.build(1, 3, 2, 1_000, 1, [7, 0, 3], [[0, 0]] * 3), [1, 1_000, MAX_X])
     yield series("spread-times", three_states(2, tolerance=1), [1, 3, 17, 60, 200, 700, 1_500, 2_000])
     yield series("large-steps-and-small", B, [1, 2, 128, 129, 255, 256])
-    yield series("absorbing", models.build(1, 3, 3, 1_000, 1, [4, 2, 0], [[500_000, 7], [0, 300_000], [0, 0]]), [1, 2, 50])
+    yield series("absorbing", models.build(1, 3, 3, 1_000, 1, [4, 2, 0], [[500_000, 7], [0, 300_000], [0, 0]]),
+                 [1, 2, 50])
     for M, R, times in ((16, 3, [1, 500]), (64, 1, [1, 1_000]), (64, 8, EIGHT)):
         yield series(f"states-{M}-moments-{R}", states(M, R), times)
 

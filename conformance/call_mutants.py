@@ -4,8 +4,8 @@
     python3 conformance/call_mutants.py       a line for each, with the first two stored calls that catch it
 
 The wrong calls stand in call_mistakes.py, each the reference with one thing changed. A stored call catches one that
-answers something else, leaves another number in an element of a slice, or is stopped by its numbers. Exit status: 0 when
-two stored calls or more catch each, 1 when not, 2 when the run is not possible.
+answers something else, leaves another number in an element of a slice, or is stopped by its numbers. Exit status: 0
+when two stored calls or more catch each, 1 when not, 2 when the run is not possible.
 """
 
 import os
@@ -63,7 +63,8 @@ def judge(call, entry, kit):
 def judge_equivalent(entry, kit):
     """Prints why no call can show the change; whether that is so for the stored ones."""
     found = catches(entry, kit, 1)
-    print(f"series {entry.name}: " + (f"yet {found[0]} catches it" if found else f"left out, no call can show it: {entry.what}"))
+    verdict = f"yet {found[0]} catches it" if found else "left out, no call can show it"
+    print(f"series {entry.name}: {verdict}: {entry.what}", flush=True)
     return not found
 
 
@@ -77,7 +78,8 @@ def main(arguments):
         bad = [call for call, kit in kits.items() if catches(RIGHT, kit)]
         for call in bad:
             print(f"{call}: a stored call catches the reference itself")
-        wrong = [entry.name for call, table in TABLE.items() for entry in table.values() if not judge(call, entry, kits[call])]
+        wrong = [entry.name for call, table in TABLE.items() for entry in table.values()
+                 if not judge(call, entry, kits[call])]
         same = [entry.name for entry in EQUIVALENT if not judge_equivalent(entry, kits["series"])]
     except ValueError as error:        # a text of call_mistakes.py that is wrong
         print(f"call_mutants.py: {error}", file=sys.stderr)

@@ -116,8 +116,8 @@ def save(each, path):
 
 
 def trouble(linked, each):
-    """What is wrong with the library's call of a case, in words, or an empty word. While the call runs, the case is kept
-    under target/."""
+    """What is wrong with the library's call of a case, in words, or an empty word. While the call runs, the case is
+    kept under target/."""
     save(each, library.UNDER_WAY)
     answer, written, faults = linked.call(each.call, each.given)
     return "; ".join(filter(None, [library.difference(each.call, expected(each), (answer, written)), *faults[:1]]))

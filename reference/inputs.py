@@ -29,8 +29,8 @@ ENOUGH = 45         # inputs from which on each row of a call's table is reached
 
 
 def outcome(program, call, given, other=False):
-    """What a call gives by the reference (or a module like it): the answer, and what each written slice then holds. With
-    `other` the slices hold other numbers beforehand."""
+    """What a call gives by the reference (or a module like it): the answer, and what each written slice then holds.
+    With `other` the slices hold other numbers beforehand."""
     values = {each.name: painted(given[each.name], each.type, 0, other) if each.written else copy.copy(given[each.name])
               for each in CALLS[call]}
     result = getattr(program, call)(*values.values())

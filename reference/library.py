@@ -1,7 +1,7 @@
 """The library's calls from Python, by ctypes.
 
-A call is a line of CALLS. Every slice is lent from the midst of a larger array: what stands before and after it, and all
-of a slice that the call only reads, has to stay as it was.
+A call is a line of CALLS. Every slice is lent from the midst of a larger array: what stands before and after it, and
+all of a slice that the call only reads, has to stay as it was.
 """
 
 import ctypes
@@ -29,7 +29,7 @@ Parameter = namedtuple("Parameter", "name type slice written")
 
 
 def parameters(text):
-    """The parameters of a call: name:type for a number, name:type[] for a slice, name:type[]* for one that is written."""
+    """A call's parameters: name:type for a number, name:type[] for a slice, name:type[]* for one that is written."""
     result = []
     for word in text.split():
         name, _, kind = word.partition(":")

@@ -1,4 +1,4 @@
-"""Model files with their sheets, and other files that are made, written to a folder or held against what stands there."""
+"""Model files with their sheets, and other files that are made: written to a folder or held against what is there."""
 
 import os
 

@@ -209,7 +209,8 @@ class Comparison(unittest.TestCase):
     def test_equal(self):
         status, said, saved = self.compare(Reference())
         self.assertEqual((status, saved), (0, []))
-        self.assertRegex(said, r"\Acompared 50 inputs of series, seed 7: all equal \(accepted \d+; refused 1: \d+, .*\)\n\Z")
+        self.assertRegex(said, r"\Acompared 50 inputs of series, seed 7: all equal "
+                               r"\(accepted \d+; refused 1: \d+, .*\)\n\Z")
 
     def test_different(self):
         def one_more(answer, written):
@@ -219,8 +220,8 @@ class Comparison(unittest.TestCase):
 
         status, said, saved = self.compare(Reference(one_more))
         self.assertEqual((status, len(saved)), (1, 1))
-        self.assertRegex(said, r"\Aseries 00001-accepted: levels\[\d\]: expected \d+, got \d+\ninput 2 of 50 differs, seed 7; "
-                               r"it is saved as .*difference-seed7-series-00001-accepted.txt\n\Z")
+        self.assertRegex(said, r"\Aseries 00001-accepted: levels\[\d\]: expected \d+, got \d+\n"
+                               r"input 2 of 50 differs, seed 7; it is saved as .*seed7-series-00001-accepted.txt\n\Z")
 
     def test_a_row_never_reached_is_told(self):
         for row in (0, 8, 12, 14):
@@ -320,8 +321,8 @@ class Library(unittest.TestCase):
     def test_signal(self):
         text = ("import sys, library; linked = library.Library(sys.argv[1]); "
                 "sys.exit(library.in_child(lambda: linked.call('calculate', dict(file=bytes([7]), cells=1))))")
-        result = subprocess.run([sys.executable, "-B", "-c", text, self.object], cwd=HERE, capture_output=True, text=True,
-                                check=False)
+        command = [sys.executable, "-B", "-c", text, self.object]
+        result = subprocess.run(command, cwd=HERE, capture_output=True, text=True, check=False)
         self.assertEqual((result.returncode, result.stderr), (1, ""))
         self.assertRegex(result.stdout, r"\Aended by signal \d+; the input of the call under way is saved as .*txt\n\Z")
 

@@ -419,7 +419,7 @@ class Series(unittest.TestCase):
         self.assertEqual(levels, [3, 4, 280])
         self.assertEqual(blocks[0], [718750000000, 612500000000, 281250000000, 175000000000])
         # With q = 2, N = 4: the weights 1, 2, 2, 4/3, 2/3 sum to 7, and u(n,1) at state 1 is 1, 1/2, 2/3, 1/2, 3/5.
-        by_hand = (1 + 2 * Fraction(1, 2) + 2 * Fraction(2, 3) + Fraction(4, 3) / 2 + Fraction(2, 3) * Fraction(3, 5)) / 7
+        by_hand = (1 + Fraction(2, 2) + 2 * Fraction(2, 3) + Fraction(4, 3) / 2 + Fraction(2, 3) * Fraction(3, 5)) / 7
         self.assertEqual((by_hand, blocks[1][0]), (Fraction(22, 35), 628571428571))
 
     def test_rows_1_to_7(self):
@@ -474,7 +474,7 @@ class Series(unittest.TestCase):
             self.refused(15, B, times)
 
     def test_row_12(self):
-        for times in ([257], [1, 257], [256, 257], [1, 2**31], [2**32 - 2, 2**32 - 1], [250, 251, 252, 253, 254, 255, 256, 257]):
+        for times in ([257], [1, 257], [256, 257], [1, 2**31], [2**32 - 2, 2**32 - 1], list(range(250, 258))):
             self.refused(12, B, times)
             self.refused(12, B, times, 0, 0)
         self.refused(12, A, [256_000_001])
@@ -531,7 +531,7 @@ class Series(unittest.TestCase):
         self.assertGreater(rises, 5)
 
     def test_level_does_not_fall(self):
-        """Where t meets its bound at n, t less its bound rises from X to X + 1: no level is seen to fall as the time rises."""
+        """Where t meets its bound at n, t less its bound rises from X to X + 1: no level is seen to fall with the time."""
         def miss(X):
             w = calculator.weights(X, n)
             return calculator.tail(w, X, n) - sum(w) * epsilon // 10**9
