@@ -531,7 +531,7 @@ class Series(unittest.TestCase):
         self.assertGreater(rises, 5)
 
     def test_level_does_not_fall(self):
-        """Where t meets its bound at n, t less its bound rises from X to X + 1: no level is seen to fall with the time."""
+        """Where t meets its bound at n, t less its bound rises from X to X + 1: no level falls as the time rises."""
         def miss(X):
             w = calculator.weights(X, n)
             return calculator.tail(w, X, n) - sum(w) * epsilon // 10**9
