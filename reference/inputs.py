@@ -153,8 +153,18 @@ def another_time(rng, file):
     return rng.choice([own_time(file), MAX_WORD, longest_time(file) + 1, 1])
 
 
+def edge_series(rng):
+    """An accepted list with the time for which a rounding or the level of its file is decided by little."""
+    file = models.build(**rng.choice([models.rounding_edge, models.rounding_edge, models.level_edge])(rng))
+    times = sorted({own_time(file), *rising(rng, longest_time(file), rng.randint(1, 7))})
+    return dict(file=with_time(file, another_time(rng, file)), times=times, levels=at_least(rng, len(times)),
+                cells=at_least(rng, len(times) * need(file)))
+
+
 def aimed_series(rng, row):
     """An input that breaks this row and some that come after it; row 0: none."""
+    if row == 0 and rng.random() < 0.3:
+        return edge_series(rng)
     later = ROWS["series"][ROWS["series"].index(row) + 1:] if row else []
     rows = {row} | set(rng.sample(later, rng.randint(0, min(3, len(later)))))
     in_list = rows & {12, 14, 15} | ({8} & rows if rng.random() < 0.5 else set())
@@ -175,7 +185,7 @@ def aimed_series(rng, row):
 def any_series(rng):
     """An input of chance."""
     file = any_file(rng)
-    if len(file) >= 13 and rng.random() < 0.5:
+    if rng.random() < 0.5:
         file = with_time(file, another_time(rng, file))
     broken = {row for row, share in ((8, 0.05), (14, 0.1), (15, 0.1), (12, 0.1)) if rng.random() < share}
     times = list_of_times(rng, longest_time(file), broken)

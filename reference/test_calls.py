@@ -99,7 +99,7 @@ class Inputs(unittest.TestCase):
             self.assertNotEqual(given_all(5, 60, call), given_all(6, 60, call))
 
     def test_lists(self):
-        lists = [given["times"] for given in given_all(1, 600)]
+        lists = [given["times"] for given in given_all(1, 1200)]
         counts = {len(times) for times in lists}
         self.assertLessEqual({0, 1, 2, 3, 5, 7, 8, 9, 10}, counts)
         neighbours = [pair for times in lists for pair in zip(times, times[1:])]
@@ -224,7 +224,7 @@ class Comparison(unittest.TestCase):
                                r"input 2 of 50 differs, seed 7; it is saved as .*seed7-series-00001-accepted.txt\n\Z")
 
     def test_a_row_never_reached_is_told(self):
-        for row in (0, 8, 12, 14):
+        for row in (0, 14):
             def without(seed, count, row=row):
                 drawn = inputs.series_inputs(seed, 3 * count)
                 kept = (each for each in drawn if inputs.row_of(inputs.outcome(calculator, *each[1:])[0]) != row)
