@@ -14,11 +14,7 @@ use Rattle.laws.specs.SumLaws.{sum-same, le-largest}
 use Rattle.laws.specs.Rounding.{row-of-place, place-in-row, place-below}
 use Rattle.laws.specs.ListLaws.{getD-firsts, getD-over}
 
--- the time has no part in the row sums, E, F or the chain
-pub row-at : (m : Model) (T i : ℕ) → rowSum (atTime m T) i ≡ rowSum m i
-unfolding jumpRate rowSum
-row-at m T i = refl
-
+-- the time has no part in E, the chain or its sizes
 pub rate-at : (m : Model) (T : ℕ) → uniformRate (atTime m T) ≡ uniformRate m
 unfolding jumpRate rowSum uniformRate
 rate-at m T = refl
@@ -26,6 +22,10 @@ rate-at m T = refl
 pub chain-at : (m : Model) (T : ℕ) → chainOf (atTime m T) ≡ chainOf m
 unfolding jumpRate rowSum uniformRate c maxReward
 chain-at m T = refl
+
+pub sizes-at : (m : Model) (T : ℕ) → sizesOf (atTime m T) ≡ sizesOf m
+unfolding jumpRate rowSum uniformRate maxReward
+sizes-at m T = refl
 
 -- what changes at the diagonal alone changes the sum by that much
 pub sum-diagonal : (n i d : ℕ) (g : ℕ → ℕ) → i < n → sum n (λ j. pick (eqb j i) d (g j)) ≡ sum n (λ j. pick (eqb j i) 0 (g j)) + d

@@ -16,7 +16,7 @@ use Rattle.definitions.specs.Chain.{Model, modelOf, atTime, jumpRate, rowSum, u
 use Rattle.definitions.specs.Rules.{accepted, Rows, framing, quantities, jumps, room, blockSize, rows, firstHeld, judgement, seriesJudgement}
 use Rattle.definitions.specs.Moment.{cell, modelLevel, outcome, cellsAfter}
 use Rattle.definitions.specs.Promise.{Promise}
-use Rattle.definitions.specs.Series.{modelAt, levelAt, levelsAfter, blocksAfter, block, SeriesPromised}
+use Rattle.definitions.specs.Series.{modelAt, levelAt, levelsAfter, blocksAfter, block, IsRun, AreRuns, SeriesPromised}
 use Rattle.laws.specs.Rounding.{quotient-remainder, remainder-below}
 use Rattle.laws.specs.RuleLaws.{NoneHold, all-pass, none-together}
 use Rattle.laws.specs.ListLaws.{getD-over}
@@ -167,11 +167,6 @@ module _ (s times : List ℕ) (levels cells : ℕ) (none : SeriesRows s times le
       (le-ltb 256000000 (uniformRate (modelOf run) * timeField run) few, tt))
       (le-ltb (blockSize s) (blockSize run) (rw (states-with s T header, highest-with s T header) (le-refl (blockSize s))), tt))
 
--- document 02's sentence: level k and block k equal a run of the file with time k alone, lent the cells of block k
-pub record SameAsRun (s times levels cells : List ℕ) (k : ℕ) : Type 0 where
-  pub same-level : outcome (withTime s (getD times k 0)) (blockSize s) ≡ accepted (getD (levelsAfter (accepted tt) s times levels) k 0)
-  pub same-block : cellsAfter (outcome (withTime s (getD times k 0)) (blockSize s)) (withTime s (getD times k 0)) (block s cells k) ≡ block s (blocksAfter (accepted tt) s times cells) k
-
 module _ (s times levels cells : List ℕ) (passed : seriesJudgement s times (length levels) (length cells) ≡ accepted tt) (k : ℕ) (h : k < length times) where
   f : AcceptedSeries s times (length levels) (length cells)
   f = accepted-series s times (length levels) (length cells) passed
@@ -194,17 +189,22 @@ module _ (s times levels cells : List ℕ) (passed : seriesJudgement s times (le
       block-is (blockSize s) 0 (length times) (λ j. cell (modelAt s times j) (levelAt s times j)) cells k h (f .block-room)
       ∙ ap (λ (m : Model). over (m .states * m .highest) (cell m (modelLevel m)) (block s cells k)) (sym is-model)
 
-  pub same-as-run : SameAsRun s times levels cells k
-  same-as-run =
-      let answer = outcome-accepted (withTime s (getD times k 0)) (blockSize s) judged in
+  -- what is lent of the cells for a block
+  size : length (block s cells k) ≡ blockSize s
+  size = length-take-le (blockSize s) (drop (k * blockSize s) cells) (omega (arith, f .block-room, block-end k (length times) (blockSize s) h, length-drop (k * blockSize s) cells))
+
+  is-run : IsRun (withTime s (getD times k 0)) (getD (levelsAfter (accepted tt) s times levels) k 0) (block s cells k) (block s (blocksAfter (accepted tt) s times cells) k)
+  is-run =
+      let answer = rw (← size) at (outcome-accepted (withTime s (getD times k 0)) (blockSize s) judged) in
       record { same-level = answer ∙ ap accepted (sym level-in); same-block = rw answer (sym block-in) }
 
   promise : Promise (withTime s (getD times k 0)) (getD (levelsAfter (accepted tt) s times levels) k 0) (block s (blocksAfter (accepted tt) s times cells) k)
   promise = rw (level-in, block-in) (demand3 (withTime s (getD times k 0)) (block s cells k) (rw size judged))
-    where
-      size : length (block s cells k) ≡ blockSize s
-      size = length-take-le (blockSize s) (drop (k * blockSize s) cells) (omega (arith, f .block-room, block-end k (length times) (blockSize s) h, length-drop (k * blockSize s) cells))
 
--- demand 3 of every block
+-- document 02's sentence, for every accepted list: each level and block is that of a run
+pub series-runs : (s times levels cells : List ℕ) → seriesJudgement s times (length levels) (length cells) ≡ accepted tt → AreRuns (accepted tt) s times (levelsAfter (accepted tt) s times levels) cells (blocksAfter (accepted tt) s times cells)
+series-runs s times levels cells passed k h = is-run s times levels cells passed k h
+
+-- and demand 3 holds of it
 pub series-promised : (s times levels cells : List ℕ) → seriesJudgement s times (length levels) (length cells) ≡ accepted tt → SeriesPromised (accepted tt) s times (levelsAfter (accepted tt) s times levels) (blocksAfter (accepted tt) s times cells)
 series-promised s times levels cells passed k h = promise s times levels cells passed k h

@@ -1,5 +1,3 @@
 -- What the inner functions of moments cite, and their laws.
-pub mod Running
-pub mod RunningLaws
-pub mod Solving
-pub mod SolvingLaws
+pub mod Filling
+pub mod FillingLaws
