@@ -37,9 +37,9 @@ mean-same X N u v h =
 cell-at : (m : Model) (l : List ℕ) (T N e : ℕ) → m .states ≤ 64 → e < m .states * m .highest → cellMean (held m l) (uniformRate m * T) (m .highest) N e ≡ cell (atTime m T) N e
 unfolding cellMean cell moment jumpMillionths
 cell-at m l T N e h b =
-    rw (rate-at m T, chain-at m T)
-    (mean-same (uniformRate m * T) N _ _
-    (λ n low. U-same (held m l) (chainOf m) (arrays-same m l h) n (e % m .highest + 1) (e / m .highest) (state-of-cell e (m .states) (m .highest) b)))
+    mean-same (uniformRate m * T) N _ _
+    (λ n low. U-same (held m l) (chainOf m) (arrays-same m l h) n (e % m .highest + 1) (e / m .highest) (state-of-cell e (m .states) (m .highest) b))
+    ∙ ap₂ (λ (E : ℕ) (ch : Chain). weightedMean (E * T) (λ n. U ch n (e % m .highest + 1) (e / m .highest)) N) (sym (rate-at m T)) (sym (chain-at m T))
 
 -- what was read of an accepted file and list
 module _ (s times : List ℕ) (levels cells : ℕ) (g : AcceptedSeries s times levels cells) (z : Sizes) (l c f xs : List ℕ) (ε : ℕ) (e : ReadAs (modelOf s) times z l c f xs ε) where
@@ -71,6 +71,10 @@ module _ (s times : List ℕ) (levels cells : ℕ) (g : AcceptedSeries s times l
           tolerance-max = rw (e .tolerance) (first .tolerance-max);
         };
       }
+
+  -- in the cells that are lent
+  pub block-room : length xs * (z .states * z .highest) ≤ cells
+  block-room = rw (e .count, e .sizes) (g .block-room)
 
   level-is : (k : ℕ) → k < length times → levelOf xs ε k ≡ levelAt s times k
   unfolding levelAt modelLevel

@@ -63,17 +63,20 @@ fn fill_with(
     write_jumps(sizes.rate, times, &mut xs);
     let count = times.len();
     let tolerance = reader::tolerance(file);
-    means::solve(sizes, chain, &rewards, &xs[..count], tolerance, weights, levels, cells);
+    means::solve(
+        sizes,
+        chain,
+        &rewards,
+        &xs[..count],
+        tolerance,
+        weights,
+        levels,
+        cells,
+    );
 }
 
 // The same, with entries enough for the chain.
-fn fill(
-    file: &[u8],
-    times: &[u32],
-    weights: &mut [u64],
-    levels: &mut [u64],
-    cells: &mut [u64],
-)
+fn fill(file: &[u8], times: &[u32], weights: &mut [u64], levels: &mut [u64], cells: &mut [u64])
     requires { ⌜ AcceptedSeries (now file) (now times) (length (now levels)) (length (now cells)) × (length (now times) * LEVELS ≤ length (now weights)) ⌝ }
     ensures levels { λ r. ⌜ now (levels .exit) ≡ levelsAfter (accepted tt) (now (file .entry)) (now (times .entry)) (now (levels .entry)) ⌝ }
     ensures cells { λ r. ⌜ now (cells .exit) ≡ blocksAfter (accepted tt) (now (file .entry)) (now (times .entry)) (now (cells .entry)) ⌝ }

@@ -10,7 +10,7 @@ use borrow.Author.Needs.{needs}
 use Rattle.moments.proofs.calculate.Statement.{statement}
 use Rattle.moments.proofs.calculate.Tie as tie
 
-fill-requires : tie.Need-fill-requires
+fill-requires : tie.Need-fill-own-requires
 fill-requires c κs = accepted-file _ _ (sym (c .before .before .before .judge .ensures) ∙ ap verdict (c .before .enum-told .given .1))
 
 returns : tie.Need-returns
@@ -22,8 +22,8 @@ returns-2 c =
     let s = c .before .before .before .before .before .before .before .before .before .args .file .now in
     let cells = c .before .before .before .before .before .before .before .before .before .args .cells .now in
     let passed : judgement s (length cells) ≡ accepted tt = sym (c .before .before .before .before .before .before .judge .ensures) ∙ ap verdict (c .before .before .before .before .enum-told .given .1) in
-    let n = c .before .before .fill .ensures .0 in
-    let after = c .before .before .fill .ensures .1 in
+    let n = c .before .before .fill-own .ensures .0 in
+    let after = c .before .before .fill-own .ensures .1 in
     (ap accepted n ∙ sym (outcome-accepted s (length cells) passed), (after, rw (after, n) (demand3 s cells passed)))
 
 pub calculate-spec : {M : Type 1} → statement M

@@ -1,0 +1,45 @@
+-- The file's own time is a list of one: its level is the file's, and its block the file's moments.
+use Prim.Native.Nat.{ℕ}
+use native.Mathlib.Omega.{arith}
+use mathlib.Core.Path.{_≡_, sym, _∙_, ap, subst}
+use mathlib.Core.List.{List, [], _∷_}
+use lib.ListN.{length, getD}
+use Rattle.definitions.specs.Rules.{accepted}
+use Rattle.definitions.specs.Moment.{cellsAfter}
+use Rattle.definitions.specs.Series.{levelsAfter, blocksAfter}
+use Rattle.laws.specs.Acceptance.{AcceptedSeries, one-time}
+use Rattle.moments.specs.FillingLaws.{own-level, own-block}
+use borrow.Author.Needs.{needs}
+use Rattle.moments.proofs.fill_own.Statement.{statement}
+use Rattle.moments.proofs.fill_own.Tie as tie
+
+fill-requires : tie.Need-fill-requires
+fill-requires c κs =
+    let start = c .before .before .before .before .before .before .before in
+    let s = start .args .file .now in
+    let cells = length (start .args .cells .now) in
+    (subst (λ (t : ℕ). AcceptedSeries s (t ∷ []) 1 cells) (sym (c .before .before .before .before .time .ensures .0)) (one-time s cells (start .pre)), omega arith)
+
+returns : tie.Need-returns
+returns c =
+    let start = c .before .before .before .before .before .before .before .before .before .before .before .before in
+    let s = start .args .file .now in
+    let cells = start .args .cells .now in
+    let time = c .before .before .before .before .before .before .before .before .before .time .ensures .0 in
+    let filled = c .before .before .before .before .fill .ensures in
+    let level = ap (λ (l : List ℕ). getD l 0 0) (filled .0) ∙ ap (λ (t : ℕ). getD (levelsAfter (accepted tt) s (t ∷ []) (0 ∷ [])) 0 0) time ∙ own-level s (0 ∷ []) in
+    (level, filled .1 ∙ ap (λ (t : ℕ). blocksAfter (accepted tt) s (t ∷ []) cells) time ∙ own-block s cells ∙ ap (λ (n : ℕ). cellsAfter (accepted n) s cells) (sym level))
+
+pub fill-own-spec : {M : Type 1} → statement M
+fill-own-spec =
+    tie.close
+    (tie.spec
+    (λ c κs. search needs)
+    (λ c. omega (arith, c .time .ensures .1))
+    (λ c. search needs)
+    (λ c. search needs)
+    (λ c. search needs)
+    fill-requires
+    (λ c. omega arith)
+    (λ c. search needs)
+    returns)

@@ -1,0 +1,96 @@
+-- What the file states is read, its chain into the entries that are lent, and the solution of what was read is the file's.
+use native.Mathlib.Omega.{arith}
+use Prim.Native.Nat.{ℕ, _*_, _≤_, _<_, _^_}
+use mathlib.Core.Path.{_≡_, sym, _∙_, ap}
+use mathlib.Core.List.{List}
+use lib.ListN.{length, getD, take}
+use lib.Seq.{length-take-le, getD-take}
+use Rattle.definitions.specs.declared.Sizes.{Sizes}
+use Rattle.definitions.specs.Chain.{modelOf, uniformRate}
+use Rattle.definitions.specs.Series.{modelAt}
+use Rattle.laws.specs.ChainLaws.{rate-at}
+use Rattle.laws.specs.ListLaws.{getD-over}
+use Rattle.moments.specs.Filling.{ReadAs}
+use Rattle.moments.specs.FillingLaws.{solvable, block-room, levels-are, blocks-are}
+use borrow.Author.Needs.{needs}
+use Rattle.moments.proofs.fill_with.Statement.{statement}
+use Rattle.moments.proofs.fill_with.Tie as tie
+
+-- E among the sizes that were read
+module _ (d : tie.After-sizes-of) where
+  abbrev start : tie.Start
+  start = d .before .before .before .before .before .before .before .before .before
+
+  rate-read : d .sizes-of .result .rate ≡ uniformRate (modelOf (start .args .file .now))
+  rate-read = ap (λ (z : Sizes). z .rate) (d .sizes-of .ensures)
+
+  rate-small : d .sizes-of .result .rate < 2 ^ 32
+  rate-small =
+      let given = start .pre .0 in
+      omega (arith, rate-read, given .limits 0 (omega (arith, given .count-min)) .rate-max, rate-at (modelOf (start .args .file .now)) (getD (start .args .times .now) 0 0))
+
+write-chain-requires : tie.Need-write-chain-requires
+write-chain-requires c κs =
+    let sized = c .before .before in
+    ((start sized .pre .0 .framed, start sized .pre .1 .0), (c .before .before .before .before .row-sums .ensures, (rate-read sized, rate-small sized)))
+
+-- what was read is the file's model and the list's X
+module _ (d : tie.After-write-jumps) where
+  abbrev sized : tie.After-sizes-of
+  sized = d .before .before .before .before .before .before .before .before
+
+  abbrev times : List ℕ
+  times = start sized .args .times .now
+
+  abbrev xs : List ℕ
+  xs = take (length times) (d .write-jumps .last .1 .1 .0)
+
+  xs-held : length times ≤ length (d .write-jumps .last .1 .1 .0)
+  xs-held = omega (arith, start sized .pre .0 .count-max, d .write-jumps .kept .1 .1 .0)
+
+  read : (ε : ℕ) → ε ≡ modelOf (start sized .args .file .now) .tolerance → ReadAs (modelOf (start sized .args .file .now)) times (sized .sizes-of .result) (start sized .args .chain .now) (d .before .before .before .before .before .write-chain .last .1 .1 .1 .0) (d .before .before .rewards-of .result) xs ε
+  read ε e =
+      record {
+        sizes = sized .sizes-of .ensures;
+        room = start sized .pre .1 .0;
+        entries = d .before .before .before .before .before .write-chain .ensures;
+        rewards = d .before .before .rewards-of .ensures;
+        count = length-take-le (length times) _ xs-held;
+        jumps = λ k h. getD-take (length times) _ k 0 h ∙ ap (λ (l : List ℕ). getD l k 0) (d .write-jumps .ensures) ∙ getD-over 0 (length times) _ _ k h ∙ ap (λ (E : ℕ). E * getD times k 0) (rate-read sized);
+        tolerance = e;
+      }
+
+solve-requires : tie.Need-solve-requires
+solve-requires c κs =
+    let d = c .before .before .before .before .before .before .before .before in
+    let begin = start (sized d) in
+    let r = read d _ (c .before .before .before .before .before .before .tolerance .ensures) in
+    (solvable (begin .args .file .now) (times d) _ _ (begin .pre .0) _ _ _ _ _ _ r, (rw (r .count) (begin .pre .1 .1), rw (r .count) (begin .pre .0 .level-room), block-room (begin .args .file .now) (times d) _ _ (begin .pre .0) _ _ _ _ _ _ r))
+
+returns : tie.Need-returns
+returns c =
+    let d = c .before .before .before .before .before .before .before .before .before .before .before .before .before .before .before in
+    let begin = start (sized d) in
+    let r = read d _ (c .before .before .before .before .before .before .before .before .before .before .before .before .before .tolerance .ensures) in
+    let solved = c .before .before .before .before .before .before .solve .ensures in
+    (solved .0 ∙ levels-are (begin .args .file .now) (times d) _ _ (begin .pre .0) _ _ _ _ _ _ r _, solved .1 ∙ blocks-are (begin .args .file .now) (times d) _ _ (begin .pre .0) _ _ _ _ _ _ r _)
+
+pub fill-with-spec : {M : Type 1} → statement M
+fill-with-spec =
+    tie.close
+    (tie.spec
+    (λ c κs. search needs)
+    (λ c κs. search needs)
+    write-chain-requires
+    (λ c κs. search needs)
+    (λ c. search needs)
+    (λ c κs. let given = c .before .before .before .before .before .before .before in (rate-small given, start given .pre .0 .count-max))
+    (λ c κs. search needs)
+    (λ c. xs-held (c .before .before .before .before))
+    (λ c. sym (length-take-le _ _ (xs-held (c .before .before .before .before .before))))
+    solve-requires
+    (λ c. search needs)
+    (λ c. search needs)
+    (λ c. search needs)
+    (λ c. search needs)
+    returns)

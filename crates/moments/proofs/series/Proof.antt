@@ -1,0 +1,41 @@
+-- A refused list touches no level and no cell; an accepted one has its levels and blocks filled. They are those of runs, and demand 3 holds of them.
+use mathlib.Core.Path.{_≡_, refl, sym, _∙_, ap}
+use lib.ListN.{length}
+use Rattle.definitions.specs.Rules.{accepted, seriesJudgement, verdict}
+use Rattle.definitions.specs.Series.{levelsAfter, blocksAfter}
+use Rattle.laws.specs.Acceptance.{accepted-series}
+use Rattle.laws.specs.SeriesLaws.{series-runs, series-promised}
+use borrow.Author.Needs.{needs}
+use Rattle.moments.proofs.series.Statement.{statement}
+use Rattle.moments.proofs.series.Tie as tie
+
+fill-requires : tie.Need-fill-listed-requires
+fill-requires c κs = accepted-series _ _ _ _ (sym (c .before .before .before .before .judge-series .ensures) ∙ ap verdict (c .before .before .enum-told .given .1))
+
+returns : tie.Need-returns
+unfolding levelsAfter blocksAfter
+returns c = (sym (ap verdict (c .before .judgement .given .1)) ∙ c .before .before .before .judge-series .ensures, (refl, (refl, (tt, tt))))
+
+returns-2 : tie.Need-returns-2
+returns-2 c =
+    let start = c .before .before .before .before .before .before .before .before .before .before .before .before .before .before in
+    let s = start .args .file .now in
+    let times = start .args .times .now in
+    let levels = start .args .levels .now in
+    let cells = start .args .cells .now in
+    let passed : seriesJudgement s times (length levels) (length cells) ≡ accepted tt = sym (c .before .before .before .before .before .before .before .before .before .judge-series .ensures) ∙ ap verdict (c .before .before .before .before .before .before .before .enum-told .given .1) in
+    let filled = c .before .before .before .before .fill-listed .ensures in
+    (sym passed, (filled .0, (filled .1, (rw (filled .0, filled .1) (series-promised s times levels cells passed), rw (filled .0, filled .1) (series-runs s times levels cells passed)))))
+
+pub series-spec : {M : Type 1} → statement M
+series-spec =
+    tie.close
+    (tie.spec
+    (λ c κs. search needs)
+    (λ c. search needs)
+    (λ c. search needs)
+    fill-requires
+    returns
+    (λ c. search needs)
+    (λ c. search needs)
+    returns-2)
