@@ -13,6 +13,11 @@ unfoldable pub plainAnswer : Answer ℕ → ℕ
 plainAnswer (accepted n) = n
 plainAnswer (refused k) = refusalsFrom + k
 
+-- an acceptance that says no more, as one that returns n
+abbrev pub returning : ℕ → Answer (Unit {0}) → Answer ℕ
+returning n (accepted tt) = accepted n
+returning n (refused k) = refused k
+
 -- the answer that a plain number stands for: below refusalsFrom an acceptance, any other a refusal
 unfoldable pub meant : ℕ → Answer ℕ
 meant x = pick (ltb x refusalsFrom) (accepted x) (refused (x - refusalsFrom))

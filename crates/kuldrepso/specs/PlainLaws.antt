@@ -3,15 +3,17 @@ use Prim.Native.Nat.{ℕ, _+_, _≤_, _<_}
 use native.Mathlib.Omega.{arith}
 use mathlib.Core.Path.{_≡_, refl, sym, _∙_, ap}
 use mathlib.Core.List.{List}
+use lib.ListN.{length}
 use borrow.Author.Tests.{lt-ltb, le-ltb}
 use Rattle.definitions.specs.Chain.{modelOf, jumpMillionths}
-use Rattle.definitions.specs.Rules.{Answer, accepted, refused}
+use Rattle.definitions.specs.Rules.{Answer, accepted, refused, seriesJudgement}
 use Rattle.definitions.specs.Level.{level}
 use Rattle.definitions.specs.Moment.{modelLevel, outcome}
-use Rattle.laws.specs.Acceptance.{accepted-file}
+use Rattle.laws.specs.Acceptance.{accepted-file, accepted-series}
+use Rattle.laws.specs.RuleLaws.{accepted-is-no-refusal}
 use Rattle.laws.specs.LevelLaws.{level-is, level-max}
 use Rattle.laws.specs.MomentLaws.{level-accepted, outcome-accepted}
-use Rattle.kuldrepso.specs.Plain.{refusalsFrom, plainAnswer, meant}
+use Rattle.kuldrepso.specs.Plain.{refusalsFrom, plainAnswer, returning, meant}
 
 -- a plain number stands for its answer, where acceptances return less than refusalsFrom
 pub answer-meant : (a : Answer ℕ) → ((n : ℕ) → a ≡ accepted n → n < refusalsFrom) → meant (plainAnswer a) ≡ a
@@ -43,3 +45,20 @@ outcome-meant s cells = answer-meant (outcome s cells) (λ n e. omega (arith, le
 -- and two calls that answer the same number have the same outcome
 pub answer-tells : (s : List ℕ) (cells : ℕ) (s' : List ℕ) (cells' : ℕ) → plainAnswer (outcome s cells) ≡ plainAnswer (outcome s' cells') → outcome s cells ≡ outcome s' cells'
 answer-tells s cells s' cells' same = sym (outcome-meant s cells) ∙ ap meant same ∙ outcome-meant s' cells'
+
+-- a series goes out as its number of times, 1 to 8
+pub series-answer : (s times : List ℕ) (levels cells n : ℕ) → returning (length times) (seriesJudgement s times levels cells) ≡ accepted n → (n ≡ length times) × (1 ≤ n) × (n ≤ 8)
+series-answer s times levels cells n e = from (seriesJudgement s times levels cells) refl
+  where
+    from : (a : Answer (Unit {0})) → seriesJudgement s times levels cells ≡ a → (n ≡ length times) × (1 ≤ n) × (n ≤ 8)
+    from (accepted tt) h =
+        let f = accepted-series s times levels cells h in
+        let same : accepted (length times) ≡ accepted n = sym (ap (returning (length times)) h) ∙ e in
+        let number : n ≡ length times = cc in
+        (number, omega (arith, number, f .count-min), omega (arith, number, f .count-max))
+    from (refused k) h = absurd (accepted-is-no-refusal n k (sym e ∙ ap (returning (length times)) h))
+
+-- so the number tells the answer
+pub series-meant : (s times : List ℕ) (levels cells : ℕ) → meant (plainAnswer (returning (length times) (seriesJudgement s times levels cells))) ≡ returning (length times) (seriesJudgement s times levels cells)
+series-meant s times levels cells =
+    answer-meant (returning (length times) (seriesJudgement s times levels cells)) (λ n e. omega (arith, series-answer s times levels cells n e .2))
