@@ -1,11 +1,11 @@
 // The proved code's algorithm in Rust, function by function, a module for each crate: definitions, reader, refusals,
-// poisson, vectors and moments. The helper is the `muldiv` beside it: crates/muldiv's (muldiv.rs), or one in u128
+// poisson, vectors, means and moments. The helper is the `muldiv` beside it: crates/muldiv's (muldiv.rs), or one in u128
 // (wide.rs).
 //
 // For the measurement alone: what each function is, the crates say. What differs from the Rattle source is only what
 // Rust's syntax asks for: the same arrays by value and lent, the same loops.
 
-use definitions::Outcome;
+use definitions::{Outcome, Series};
 
 mod definitions {
     pub const ONE: u64 = 1_000_000_000_000;
@@ -17,6 +17,11 @@ mod definitions {
 
     pub enum Outcome {
         Level(u64),
+        Refused(u8),
+    }
+
+    pub enum Series {
+        Accepted,
         Refused(u8),
     }
 
@@ -192,6 +197,7 @@ mod refusals {
     const MOST_REWARD: u64 = 1_000_000;
     const MOST_ROW_SUM: u64 = 10_000_000;
     const MOST_JUMPS: u64 = 256_000_000;
+    pub const MOST_TIMES: u64 = 8;
 
     fn outside(x: u64, most: u64) -> bool {
         x == 0 || x > most
@@ -226,11 +232,21 @@ mod refusals {
         Refused(u8),
     }
 
-    fn judge_quantities(file: &[u8]) -> Rated {
+    fn starts_at_zero(times: &[u32]) -> bool {
+        if times.len() == 0 {
+            return false;
+        }
+        times[0] == 0
+    }
+
+    fn judge_quantities(file: &[u8], times: &[u32]) -> Rated {
         if outside(reader::tolerance(file), MOST_TOLERANCE) {
             return Rated::Refused(7);
         }
         if reader::time(file) == 0 {
+            return Rated::Refused(8);
+        }
+        if starts_at_zero(times) {
             return Rated::Refused(8);
         }
         let most = reader::max_reward(file);
@@ -248,11 +264,11 @@ mod refusals {
         Rated::Rate(rate)
     }
 
-    pub fn judge_model(file: &[u8]) -> Rated {
+    pub fn judge_model(file: &[u8], times: &[u32]) -> Rated {
         let framing = judge_framing(file);
         match framing {
             Judgement::Refused(k) => Rated::Refused(k),
-            Judgement::Accepted => judge_quantities(file),
+            Judgement::Accepted => judge_quantities(file, times),
         }
     }
 
@@ -260,22 +276,62 @@ mod refusals {
         reader::jump_millionths(rate, time) > MOST_JUMPS
     }
 
-    pub fn judge(file: &[u8], cells: usize) -> Judgement {
-        let model = judge_model(file);
-        match model {
-            Rated::Refused(k) => Judgement::Refused(k),
-            Rated::Rate(rate) => judge_run(file, rate, cells),
-        }
-    }
-
-    fn judge_run(file: &[u8], rate: u64, cells: usize) -> Judgement {
-        if too_many_jumps(rate, reader::time(file)) {
+    fn judge_run(file: &[u8], rate: u64, time: u64, blocks: usize, cells: usize) -> Judgement {
+        if too_many_jumps(rate, time) {
             return Judgement::Refused(12);
         }
-        if cells < reader::state_count(file) * reader::highest_moment(file) {
+        let block = reader::state_count(file) * reader::highest_moment(file);
+        if cells < blocks * block {
             return Judgement::Refused(13);
         }
         Judgement::Accepted
+    }
+
+    pub fn judge(file: &[u8], cells: usize) -> Judgement {
+        let model = judge_model(file, &[]);
+        match model {
+            Rated::Refused(k) => Judgement::Refused(k),
+            Rated::Rate(rate) => judge_run(file, rate, reader::time(file), 1, cells),
+        }
+    }
+
+    fn falls(times: &[u32]) -> bool {
+        for k in 1..times.len() {
+            if times[k] <= times[k - 1] {
+                return true;
+            }
+        }
+        false
+    }
+
+    fn wide(x: u32) -> u64 {
+        x as u64
+    }
+
+    fn judge_times(file: &[u8], rate: u64, times: &[u32], levels: usize, cells: usize) -> Judgement {
+        let count = times.len();
+        if outside(count as u64, MOST_TIMES) {
+            return Judgement::Refused(14);
+        }
+        if falls(times) {
+            return Judgement::Refused(15);
+        }
+        let run = judge_run(file, rate, wide(times[count - 1]), count, cells);
+        if let Judgement::Refused(k) = run {
+            return Judgement::Refused(k);
+        }
+        if levels < count {
+            return Judgement::Refused(13);
+        }
+        Judgement::Accepted
+    }
+
+    pub fn judge_series(file: &[u8], times: &[u32], levels: usize, cells: usize) -> Judgement {
+        let model = judge_model(file, times);
+        match model {
+            Rated::Refused(row) => Judgement::Refused(row),
+            Rated::Rate(rate) => judge_times(file, rate, times, levels, cells),
+        }
     }
 }
 
@@ -292,7 +348,7 @@ mod poisson {
         pub sum: u64,
     }
 
-    pub fn truncate(x: u64, tolerance: u64, weights: &mut [u64; LEVELS]) -> Truncation {
+    pub fn truncate(x: u64, tolerance: u64, weights: &mut [u64]) -> Truncation {
         let mut sum = leftward(x, weights);
         let mut w = GREATEST;
         let mut n = mode_of(x);
@@ -348,11 +404,15 @@ mod poisson {
 mod vectors {
     use super::definitions::{Sizes, ONE};
 
+    fn wide(x: u32) -> u64 {
+        x as u64
+    }
+
     fn row_mean(sizes: Sizes, chain: &[u32], v: &[u64; 64], i: usize) -> u64 {
         let states = sizes.states;
         let mut total = 0;
         for j in 0..states {
-            total += chain[i * states + j] as u64 * v[j];
+            total += wide(chain[i * states + j]) * v[j];
         }
         total / sizes.rate
     }
@@ -420,11 +480,9 @@ mod vectors {
     }
 }
 
-mod moments {
-    use super::definitions::{Judgement, Outcome, Sizes, ONE};
-    use super::{muldiv, poisson, reader, refusals, vectors};
-
-    const FEW_STATES: usize = 16;
+mod means {
+    use super::definitions::{Sizes, ONE};
+    use super::{muldiv, poisson, vectors};
 
     fn clear(count: usize, cells: &mut [u64]) {
         for k in 0..count {
@@ -448,24 +506,55 @@ mod moments {
         }
     }
 
+    fn add_up_to_level(
+        sizes: Sizes,
+        n: u64,
+        level: u64,
+        row: &[u64],
+        table: &[[u64; 64]; 9],
+        cells: &mut [u64],
+    ) {
+        if n > level {
+            return;
+        }
+        add_terms(sizes, row[n as usize], table, cells);
+    }
+
+    fn add_to_blocks(
+        sizes: Sizes,
+        n: u64,
+        levels: &[u64],
+        weights: &[u64],
+        table: &[[u64; 64]; 9],
+        cells: &mut [u64],
+    ) {
+        let block = sizes.states * sizes.highest;
+        let count = levels.len();
+        for k in 0..count {
+            let row = &weights[k * poisson::LEVELS..];
+            add_up_to_level(sizes, n, levels[k], row, table, &mut cells[k * block..]);
+        }
+    }
+
     fn accumulate(
         sizes: Sizes,
         chain: &[u32],
         rewards: &[u64; 64],
-        weights: &[u64; poisson::LEVELS],
-        level: u64,
+        levels: &[u64],
+        largest: u64,
+        weights: &[u64],
         cells: &mut [u64],
     ) {
         let zeros = [0u64; 64];
         let mut table = [zeros; 9];
         vectors::first_table(sizes, rewards, &mut table);
-        clear(sizes.states * sizes.highest, cells);
-        add_terms(sizes, weights[0], &table, cells);
+        clear(levels.len() * (sizes.states * sizes.highest), cells);
+        add_to_blocks(sizes, 0, levels, weights, &table, cells);
         let mut n: u64 = 0;
-        while n < level {
+        while n < largest {
             n += 1;
             vectors::next_table(sizes, chain, rewards, n, &mut table);
-            add_terms(sizes, weights[n as usize], &table, cells);
+            add_to_blocks(sizes, n, levels, weights, &table, cells);
         }
     }
 
@@ -480,40 +569,135 @@ mod moments {
         }
     }
 
-    fn solve(sizes: Sizes, chain: &[u32], rewards: &[u64; 64], x: u64, tolerance: u64, cells: &mut [u64]) -> u64 {
-        let mut weights = [0u64; poisson::LEVELS];
-        let cut = poisson::truncate(x, tolerance, &mut weights);
-        let level = cut.level;
-        accumulate(sizes, chain, rewards, &weights, level, cells);
-        divide_sums(cut.sum, sizes.states * sizes.highest, cells);
-        level
+    fn divide_blocks(totals: &[u64], block: usize, cells: &mut [u64]) {
+        let count = totals.len();
+        for k in 0..count {
+            divide_sums(totals[k], block, &mut cells[k * block..]);
+        }
     }
 
-    fn fill_with(file: &[u8], chain: &mut [u32], cells: &mut [u64]) -> u64 {
+    fn larger(a: u64, b: u64) -> u64 {
+        if a < b {
+            b
+        } else {
+            a
+        }
+    }
+
+    fn truncate_each(
+        xs: &[u64],
+        tolerance: u64,
+        levels: &mut [u64],
+        totals: &mut [u64],
+        weights: &mut [u64],
+    ) -> u64 {
+        let count = xs.len();
+        let mut largest: u64 = 0;
+        for k in 0..count {
+            let row = &mut weights[k * poisson::LEVELS..];
+            let cut = poisson::truncate(xs[k], tolerance, row);
+            levels[k] = cut.level;
+            totals[k] = cut.sum;
+            largest = larger(largest, cut.level);
+        }
+        largest
+    }
+
+    pub fn solve(
+        sizes: Sizes,
+        chain: &[u32],
+        rewards: &[u64; 64],
+        xs: &[u64],
+        tolerance: u64,
+        weights: &mut [u64],
+        levels: &mut [u64],
+        cells: &mut [u64],
+    ) {
+        let count = xs.len();
+        let mut totals = [0u64; 8];
+        let largest = truncate_each(xs, tolerance, levels, &mut totals, weights);
+        accumulate(sizes, chain, rewards, &levels[..count], largest, weights, cells);
+        divide_blocks(&totals[..count], sizes.states * sizes.highest, cells);
+    }
+}
+
+mod moments {
+    use super::definitions::{Judgement, Outcome, Series};
+    use super::{means, poisson, reader, refusals};
+
+    const FEW_STATES: usize = 16;
+    const MOST_TIMES: usize = 8;
+
+    fn wide(x: u32) -> u64 {
+        x as u64
+    }
+
+    fn write_jumps(rate: u64, times: &[u32], xs: &mut [u64]) {
+        let count = times.len();
+        for k in 0..count {
+            xs[k] = reader::jump_millionths(rate, wide(times[k]));
+        }
+    }
+
+    fn fill_with(
+        file: &[u8],
+        times: &[u32],
+        chain: &mut [u32],
+        weights: &mut [u64],
+        levels: &mut [u64],
+        cells: &mut [u64],
+    ) {
         let sums = reader::row_sums(file);
         let sizes = reader::sizes_of(file, &sums);
         reader::write_chain(file, &sums, sizes.rate, chain);
         let rewards = reader::rewards_of(file);
-        let x = reader::jump_millionths(sizes.rate, reader::time(file));
+        let mut xs = [0u64; MOST_TIMES];
+        write_jumps(sizes.rate, times, &mut xs);
+        let count = times.len();
         let tolerance = reader::tolerance(file);
-        solve(sizes, chain, &rewards, x, tolerance, cells)
+        means::solve(sizes, chain, &rewards, &xs[..count], tolerance, weights, levels, cells);
     }
 
-    fn fill(file: &[u8], cells: &mut [u64]) -> u64 {
+    fn fill(file: &[u8], times: &[u32], weights: &mut [u64], levels: &mut [u64], cells: &mut [u64]) {
         let states = reader::state_count(file);
         if states <= FEW_STATES {
             let mut chain = [0u32; FEW_STATES * FEW_STATES];
-            return fill_with(file, &mut chain, cells);
+            fill_with(file, times, &mut chain, weights, levels, cells);
+            return;
         }
         let mut chain = [0u32; 64 * 64];
-        fill_with(file, &mut chain, cells)
+        fill_with(file, times, &mut chain, weights, levels, cells);
+    }
+
+    fn fill_own(file: &[u8], cells: &mut [u64]) -> u64 {
+        let times = [reader::time(file) as u32];
+        let mut weights = [0u64; poisson::LEVELS];
+        let mut levels = [0u64];
+        fill(file, &times, &mut weights, &mut levels, cells);
+        levels[0]
     }
 
     pub fn calculate(file: &[u8], cells: &mut [u64]) -> Outcome {
         let judgement = refusals::judge(file, cells.len());
         match judgement {
             Judgement::Refused(k) => Outcome::Refused(k),
-            Judgement::Accepted => Outcome::Level(fill(file, cells)),
+            Judgement::Accepted => Outcome::Level(fill_own(file, cells)),
+        }
+    }
+
+    fn fill_listed(file: &[u8], times: &[u32], levels: &mut [u64], cells: &mut [u64]) {
+        let mut weights = [0u64; MOST_TIMES * poisson::LEVELS];
+        fill(file, times, &mut weights, levels, cells);
+    }
+
+    pub fn series(file: &[u8], times: &[u32], levels: &mut [u64], cells: &mut [u64]) -> Series {
+        let judgement = refusals::judge_series(file, times, levels.len(), cells.len());
+        match judgement {
+            Judgement::Refused(row) => Series::Refused(row),
+            Judgement::Accepted => {
+                fill_listed(file, times, levels, cells);
+                Series::Accepted
+            }
         }
     }
 }
@@ -522,5 +706,12 @@ pub fn calculate(file: &[u8], cells: &mut [u64]) -> Result<u64, u8> {
     match moments::calculate(file, cells) {
         Outcome::Level(level) => Ok(level),
         Outcome::Refused(row) => Err(row),
+    }
+}
+
+pub fn series(file: &[u8], times: &[u32], levels: &mut [u64], cells: &mut [u64]) -> Result<u64, u8> {
+    match moments::series(file, times, levels, cells) {
+        Series::Accepted => Ok(times.len() as u64),
+        Series::Refused(row) => Err(row),
     }
 }
