@@ -5,13 +5,18 @@
 //!     wide      the same algorithm in Rust, with u128 in the helper's place
 //!     plain     the independent version of the comparison: u128 throughout, vectors on the heap
 //!
-//!     bench TURNS all FILE...      prints the times and the ratios
-//!     bench TURNS LINE FILE...     runs that line alone and prints nothing, for a profiler
+//!     bench TURNS all FILE...                prints the times and the ratios
+//!     bench TURNS LINE FILE...               runs that line alone and prints nothing, for a profiler
+//!     bench TURNS series [FILE TIMES]...     times a list of 8 times, as 1,2,3,4,5,6,7,8, beside single calls
 
 #[path = "../../../tests/rust/src/independent.rs"]
+#[allow(dead_code)] // its series is not timed
 mod independent;
 #[path = "../../../tests/rust/src/library.rs"]
 mod library;
+mod series;
+mod single;
+mod timing;
 
 /// The helper as crates/muldiv has it.
 mod same {
@@ -29,174 +34,11 @@ mod wide {
     include!("algorithm.rs");
 }
 
-use std::hint::black_box;
-use std::path::Path;
-use std::time::Instant;
-
-type Calculation = fn(&[u8], &mut [u64]) -> Result<u64, u8>;
-
-/// The library first, then the versions in Rust.
-const LINES: [(&str, Calculation); 4] = [
-    ("library", library::calculate),
-    ("same", same::calculate),
-    ("wide", wide::calculate),
-    ("plain", independent::calculate),
-];
-const LIBRARY: usize = 0;
-
-/// Cells for every file.
-const CELLS: usize = 512;
-
-/// A turn of a line takes at least about this long: as many calls as that needs are timed as one.
-const TURN_MICROSECONDS: f64 = 1_000.0;
-
-/// A model file, what every line has to answer, and the microseconds a call of each line, turn by turn.
-struct Case {
-    name: String,
-    file: Vec<u8>,
-    level: u64,
-    cells: [u64; CELLS],
-    calls: [u32; LINES.len()],
-    times: [Vec<f64>; LINES.len()],
-}
-
-impl Case {
-    /// The file with the count of calls in a turn of each of `lines`.
-    fn read(path: &Path, lines: &[usize]) -> Case {
-        let name = path.file_stem().expect("a file's name").to_string_lossy().into_owned();
-        let file = std::fs::read(path).expect("a model file");
-        let mut cells = [0; CELLS];
-        let level = independent::calculate(&file, &mut cells).expect("an accepted file");
-        let mut case = Case { name, file, level, cells, calls: [1; LINES.len()], times: Default::default() };
-        for line in lines {
-            let least = (0..3).map(|_| case.time(*line, 1)).fold(f64::INFINITY, f64::min);
-            case.calls[*line] = (TURN_MICROSECONDS / least).clamp(1.0, 10_000.0) as u32;
-        }
-        case
-    }
-
-    /// The microseconds a call, of some calls timed as one. The answer and the cells that they leave are compared.
-    fn time(&self, line: usize, calls: u32) -> f64 {
-        let (name, calculation) = LINES[line];
-        let mut cells = [0; CELLS];
-        let mut answer = Err(0);
-        let start = Instant::now();
-        for _ in 0..calls {
-            answer = calculation(black_box(&self.file), black_box(&mut cells));
-        }
-        let spent = start.elapsed().as_secs_f64();
-        assert_eq!(answer, Ok(self.level), "{name}");
-        assert_eq!(cells, self.cells, "{name}");
-        spent * 1e6 / f64::from(calls)
-    }
-
-    fn turn(&mut self, line: usize) {
-        let time = self.time(line, self.calls[line]);
-        self.times[line].push(time);
-    }
-
-    fn states(&self) -> u64 {
-        self.file[3].into()
-    }
-
-    fn highest(&self) -> u64 {
-        self.file[4].into()
-    }
-
-    /// M × M × R × N, the number of products c(i,j) × U.
-    fn products(&self) -> u64 {
-        self.states() * self.states() * self.highest() * self.level
-    }
-
-    fn times(&self, line: usize) -> Spread {
-        Spread::of(self.times[line].iter().copied())
-    }
-
-    fn nanoseconds_a_product(&self, line: usize) -> f64 {
-        self.times(line).median * 1e3 / self.products() as f64
-    }
-
-    /// The ratios of each turn, so that both parts of one are of the same spell.
-    fn ratios(&self, line: usize, other: usize) -> Spread {
-        Spread::of(self.times[line].iter().zip(&self.times[other]).map(|(own, others)| own / others))
-    }
-
-    fn fastest_in_rust(&self) -> usize {
-        let rust = (0..LINES.len()).filter(|line| *line != LIBRARY);
-        rust.min_by(|a, b| self.times(*a).median.total_cmp(&self.times(*b).median)).expect("a version in Rust")
-    }
-
-    fn print(&self) {
-        let fastest = self.fastest_in_rust();
-        let (name, states, highest, level) = (&self.name, self.states(), self.highest(), self.level);
-        println!("{name}: {states} states, R = {highest}, level {level}, {} products", self.products());
-        println!("  line         median      least   greatest ns/product  library/line  line/fastest   middle half");
-        for (line, (label, _)) in LINES.iter().enumerate() {
-            let Spread { median, least, greatest, .. } = self.times(line);
-            let product = self.nanoseconds_a_product(line);
-            let library = self.ratios(LIBRARY, line).median;
-            let ratios = self.ratios(line, fastest);
-            print!("  {label:<8} {median:>10.2} {least:>10.2} {greatest:>10.2} {product:>10.3} {library:>13.2} ");
-            println!("{:>13.2}  {:>5.2} to {:.2}", ratios.median, ratios.low, ratios.high);
-        }
-        let ratios = self.ratios(LIBRARY, fastest);
-        println!("  fastest in Rust: {}; library/fastest {:.2}\n", LINES[fastest].0, ratios.median);
-    }
-
-    fn print_short(&self) {
-        let (name, states, highest, level) = (&self.name, self.states(), self.highest(), self.level);
-        print!("  {name:<10} {states:>6} {highest:>2} {level:>5}");
-        let fastest = self.fastest_in_rust();
-        for line in [LIBRARY, fastest] {
-            print!(" {:>11.2} {:>10.3}", self.times(line).median, self.nanoseconds_a_product(line));
-        }
-        println!("   {:<7} {:>13.2}", LINES[fastest].0, self.ratios(LIBRARY, fastest).median);
-    }
-}
-
-/// The least of some numbers, their quartiles and the greatest.
-struct Spread {
-    least: f64,
-    low: f64,
-    median: f64,
-    high: f64,
-    greatest: f64,
-}
-
-impl Spread {
-    fn of(numbers: impl Iterator<Item = f64>) -> Spread {
-        let mut sorted: Vec<f64> = numbers.collect();
-        sorted.sort_by(f64::total_cmp);
-        let at = |quarters: usize| sorted[quarters * (sorted.len() - 1) / 4];
-        Spread { least: at(0), low: at(1), median: at(2), high: at(3), greatest: at(4) }
-    }
-}
-
 fn main() {
     let words: Vec<String> = std::env::args().skip(1).collect();
     let turns: usize = words[0].parse().expect("a number of turns");
-    let chosen = |line: &usize| words[1] == "all" || words[1] == LINES[*line].0;
-    let lines: Vec<usize> = (0..LINES.len()).filter(chosen).collect();
-    assert!(!lines.is_empty(), "no line {}", words[1]);
-    let mut cases: Vec<Case> = words[2..].iter().map(|path| Case::read(Path::new(path), &lines)).collect();
-    // The files and the lines take turns, so that a slow spell of the machine meets all of them.
-    for _ in 0..turns {
-        for case in &mut cases {
-            for line in &lines {
-                case.turn(*line);
-            }
-        }
-    }
-    if lines.len() < LINES.len() {
-        return;
-    }
-    println!("{turns} turns; times in microseconds a call; a ratio is the median of the ratios turn by turn\n");
-    for case in &cases {
-        case.print();
-    }
-    println!("all files: the medians of the library and of the fastest in Rust");
-    println!("  file       states  R level     library ns/product     fastest ns/product   which library/fastest");
-    for case in &cases {
-        case.print_short();
+    match words[1].as_str() {
+        "series" => series::measure(turns, &words[2..]),
+        line => single::measure(turns, line, &words[2..]),
     }
 }

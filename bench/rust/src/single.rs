@@ -1,0 +1,148 @@
+//! Times single calls: of the library and of the versions in Rust.
+
+use crate::timing::{self, Spread};
+use crate::{independent, library, same, wide};
+use std::hint::black_box;
+use std::path::Path;
+
+type Calculation = fn(&[u8], &mut [u64]) -> Result<u64, u8>;
+
+/// The library first, then the versions in Rust.
+const LINES: [(&str, Calculation); 4] = [
+    ("library", library::calculate),
+    ("same", same::calculate),
+    ("wide", wide::calculate),
+    ("plain", independent::calculate),
+];
+const LIBRARY: usize = 0;
+
+/// Cells for every file.
+const CELLS: usize = 512;
+
+/// A model file, what every line has to answer, and the microseconds a call of each line, turn by turn.
+struct Case {
+    name: String,
+    file: Vec<u8>,
+    level: u64,
+    cells: [u64; CELLS],
+    calls: [u32; LINES.len()],
+    times: [Vec<f64>; LINES.len()],
+}
+
+impl Case {
+    /// The file with the count of calls in a turn of each of `lines`.
+    fn read(path: &Path, lines: &[usize]) -> Case {
+        let name = path.file_stem().expect("a file's name").to_string_lossy().into_owned();
+        let file = std::fs::read(path).expect("a model file");
+        let mut cells = [0; CELLS];
+        let level = independent::calculate(&file, &mut cells).expect("an accepted file");
+        let mut case = Case { name, file, level, cells, calls: [1; LINES.len()], times: Default::default() };
+        for line in lines {
+            case.calls[*line] = timing::calls_in_a_turn(|| case.time(*line, 1));
+        }
+        case
+    }
+
+    /// The microseconds a call, of some calls timed as one. The answer and the cells that they leave are compared.
+    fn time(&self, line: usize, calls: u32) -> f64 {
+        let (name, calculation) = LINES[line];
+        let mut cells = [0; CELLS];
+        let mut answer = Err(0);
+        let spent = timing::microseconds(calls, || {
+            answer = calculation(black_box(&self.file), black_box(&mut cells));
+        });
+        assert_eq!(answer, Ok(self.level), "{name}");
+        assert_eq!(cells, self.cells, "{name}");
+        spent
+    }
+
+    fn turn(&mut self, line: usize) {
+        let time = self.time(line, self.calls[line]);
+        self.times[line].push(time);
+    }
+
+    fn states(&self) -> u64 {
+        self.file[3].into()
+    }
+
+    fn highest(&self) -> u64 {
+        self.file[4].into()
+    }
+
+    /// M × M × R × N, the number of products c(i,j) × U.
+    fn products(&self) -> u64 {
+        self.states() * self.states() * self.highest() * self.level
+    }
+
+    fn times(&self, line: usize) -> Spread {
+        Spread::of(self.times[line].iter().copied())
+    }
+
+    fn nanoseconds_a_product(&self, line: usize) -> f64 {
+        self.times(line).median * 1e3 / self.products() as f64
+    }
+
+    fn ratios(&self, line: usize, other: usize) -> Spread {
+        Spread::of_ratios(&self.times[line], &self.times[other])
+    }
+
+    fn fastest_in_rust(&self) -> usize {
+        let rust = (0..LINES.len()).filter(|line| *line != LIBRARY);
+        rust.min_by(|a, b| self.times(*a).median.total_cmp(&self.times(*b).median)).expect("a version in Rust")
+    }
+
+    fn print(&self) {
+        let fastest = self.fastest_in_rust();
+        let (name, states, highest, level) = (&self.name, self.states(), self.highest(), self.level);
+        println!("{name}: {states} states, R = {highest}, level {level}, {} products", self.products());
+        println!("  line         median      least   greatest ns/product  library/line  line/fastest   middle half");
+        for (line, (label, _)) in LINES.iter().enumerate() {
+            let Spread { median, least, greatest, .. } = self.times(line);
+            let product = self.nanoseconds_a_product(line);
+            let library = self.ratios(LIBRARY, line).median;
+            let ratios = self.ratios(line, fastest);
+            print!("  {label:<8} {median:>10.2} {least:>10.2} {greatest:>10.2} {product:>10.3} {library:>13.2} ");
+            println!("{:>13.2}  {:>5.2} to {:.2}", ratios.median, ratios.low, ratios.high);
+        }
+        let ratios = self.ratios(LIBRARY, fastest);
+        println!("  fastest in Rust: {}; library/fastest {:.2}\n", LINES[fastest].0, ratios.median);
+    }
+
+    fn print_short(&self) {
+        let (name, states, highest, level) = (&self.name, self.states(), self.highest(), self.level);
+        print!("  {name:<10} {states:>6} {highest:>2} {level:>5}");
+        let fastest = self.fastest_in_rust();
+        for line in [LIBRARY, fastest] {
+            print!(" {:>11.2} {:>10.3}", self.times(line).median, self.nanoseconds_a_product(line));
+        }
+        println!("   {:<7} {:>13.2}", LINES[fastest].0, self.ratios(LIBRARY, fastest).median);
+    }
+}
+
+/// Times the chosen line on some files, or all lines, and prints what all came to.
+pub fn measure(turns: usize, line: &str, paths: &[String]) {
+    let chosen = |number: &usize| line == "all" || line == LINES[*number].0;
+    let lines: Vec<usize> = (0..LINES.len()).filter(chosen).collect();
+    assert!(!lines.is_empty(), "no line {line}");
+    let mut cases: Vec<Case> = paths.iter().map(|path| Case::read(Path::new(path), &lines)).collect();
+    // The files and the lines take turns, so that a slow spell of the machine meets all of them.
+    for _ in 0..turns {
+        for case in &mut cases {
+            for line in &lines {
+                case.turn(*line);
+            }
+        }
+    }
+    if lines.len() < LINES.len() {
+        return;
+    }
+    println!("{turns} turns; times in microseconds a call; a ratio is the median of the ratios turn by turn\n");
+    for case in &cases {
+        case.print();
+    }
+    println!("all files: the medians of the library and of the fastest in Rust");
+    println!("  file       states  R level     library ns/product     fastest ns/product   which library/fastest");
+    for case in &cases {
+        case.print_short();
+    }
+}
