@@ -1,4 +1,5 @@
-//! Times four calculations side by side, in one process. `bench/run` builds and runs this.
+//! Times four calculations side by side, in one process, and lists of times beside single calls. `bench/run` builds and
+//! runs this.
 //!
 //!     library   the proved call, from libkuldrepso.a
 //!     same      the same algorithm in Rust, with the same helper

@@ -84,17 +84,17 @@ impl Case {
         filled
     }
 
-    fn run(&self, line: Line, filled: &mut Filled) {
+    fn run(&self, number: usize, filled: &mut Filled) {
+        let (name, line) = LINES[number];
         match line {
-            Line::List(series) => self.run_list(series, filled),
+            Line::List(series) => assert_eq!(self.run_list(series, filled), Ok(TIMES as u64), "{name}"),
             Line::Singles(first) => self.run_singles(first, filled),
         }
     }
 
-    fn run_list(&self, series: Series, filled: &mut Filled) {
+    fn run_list(&self, series: Series, filled: &mut Filled) -> Result<u64, u8> {
         let Filled { levels, cells } = filled;
-        let answer = series(black_box(&self.file), black_box(&self.list), black_box(levels), black_box(cells));
-        assert_eq!(answer, Ok(TIMES as u64), "the answer");
+        series(black_box(&self.file), black_box(&self.list), black_box(levels), black_box(cells))
     }
 
     fn run_singles(&self, first: usize, filled: &mut Filled) {
@@ -107,15 +107,15 @@ impl Case {
 
     /// The microseconds a call, of some calls timed as one; 8 single calls count as one. The levels and the cells that they
     /// leave are compared.
-    fn time(&self, number: usize, calls: u32) -> f64 {
-        let (name, line) = LINES[number];
+    fn time(&self, line: usize, calls: u32) -> f64 {
         let mut filled = Filled::zeros();
         let spent = timing::microseconds(calls, || self.run(line, &mut filled));
-        self.compare(name, line, &filled);
+        self.compare(line, &filled);
         spent
     }
 
-    fn compare(&self, name: &str, line: Line, filled: &Filled) {
+    fn compare(&self, number: usize, filled: &Filled) {
+        let (name, line) = LINES[number];
         let first = match line {
             Line::List(_) => 0,
             Line::Singles(first) => first,
@@ -144,7 +144,7 @@ impl Case {
     }
 
     fn print(&self) {
-        println!("{}: {} states, R = {}", self.name, self.states(), self.highest());
+        println!("\n{}: {} states, R = {}", self.name, self.states(), self.highest());
         println!("  times {:?}, levels {:?}", self.list, self.expected.levels);
         println!("  line                    median   middle half");
         for (line, (label, _)) in LINES.iter().enumerate() {
@@ -155,7 +155,6 @@ impl Case {
         self.print_ratio("8 calls/series", SINGLES, SERIES);
         self.print_ratio("library/same", SERIES, SAME);
         self.print_ratio("library/wide", SERIES, WIDE);
-        println!();
     }
 
     fn print_ratio(&self, label: &str, line: usize, other: usize) {
@@ -187,7 +186,7 @@ pub fn measure(turns: usize, words: &[String]) {
             }
         }
     }
-    println!("{turns} turns; times in microseconds a call, or for all 8; a ratio is the median of the ratios turn by turn\n");
+    println!("{turns} turns; times in microseconds a call, or for all 8; a ratio is the median of the ratios turn by turn");
     for case in &cases {
         case.print();
     }
