@@ -1,5 +1,6 @@
 -- "Hand-checked files": the ten starred entries, as one list and one statement over it, B's moments being those of document 02, S-1.
--- Beside them, and apart from the ten, the average of B, the places "Where hand solutions go wrong", and the last quotient's rounding.
+-- Beside them, and apart from the ten, the average of B, the places "Where hand solutions go wrong", the last quotient's rounding, and B with
+-- lists of times (document 02, S-3).
 use Prim.Native.Nat.{ℕ, _<_}
 use mathlib.Core.List.{List, [], _∷_}
 use mathlib.Core.Logic.{_≢_}
@@ -7,14 +8,16 @@ use mathlib.Core.Path.{_≡_, refl}
 use native.Mathlib.Omega.{arith}
 use lib.ListN.{length, set, replicate}
 use lib.Dec.{lit<}
-use Rattle.definitions.specs.Sums.{sum, largest, anyAbove, firsts, over, pick}
-use Rattle.definitions.specs.Bytes.{big}
+use Rattle.definitions.specs.Sums.{sum, largest, anyAbove, firsts, over, blocks, pick}
+use Rattle.definitions.specs.Bytes.{big, bytesOf}
+use Rattle.definitions.specs.File.{withTime}
 use Rattle.definitions.specs.Chain.{Model, modelOf, Chain, jumpRate, rowSum, uniformRate, c, maxReward, jumpMillionths, chainOf}
-use Rattle.definitions.specs.Rules.{accepted, refused, framing, quantities, jumps, room, rows, firstHeld, judgement}
+use Rattle.definitions.specs.Rules.{accepted, refused, framing, quantities, fallsUpTo, listing, jumps, room, rows, seriesRows, firstHeld, judgement, seriesJudgement}
 use Rattle.definitions.specs.Vectors.{ONE, rowMean, rewardShare, mix, nextEntry, firstVectors, nextVectors, U}
 use Rattle.definitions.specs.Weights.{mode, rightward, leftward, weight, weightSum}
 use Rattle.definitions.specs.Level.{tailBound, allowance, passes?, firstFrom, level}
 use Rattle.definitions.specs.Moment.{term, weighted, nearest, lastQuotient, weightedMean, moment, cell, modelLevel, outcome, cellsAfter}
+use Rattle.definitions.specs.Series.{levelAt, levelsAfter, blocksAfter}
 use Rattle.definitions.specs.Fraction.{Same, ratio, total, power}
 use Rattle.definitions.specs.Average.{exactMean, exactShare, exactMix, exactFirst, exactNext, exactU, factorial, exactWeight, averageOf, average}
 use Rattle.definitions.specs.Sheet.{digit, digits, places, decimal, figure, momentLine, momentLines, levelLine, sheetOf, sheet, printedSheet}
@@ -122,3 +125,53 @@ sheetB =
 pub sheet-of-B : printedSheet fileB ≡ sheetB
 unfolding sum largest anyAbove firsts over big jumpRate rowSum uniformRate c maxReward jumpMillionths framing quantities jumps room rows firstHeld judgement rowMean rewardShare mix nextEntry firstVectors nextVectors U mode rightward leftward weight weightSum tailBound allowance passes? firstFrom level term weighted nearest lastQuotient weightedMean moment cell modelLevel outcome cellsAfter digit digits places decimal figure momentLine momentLines levelLine sheetOf sheet printedSheet
 sheet-of-B = refl
+
+-- B with the times 1 and 2: a level and a block for each, the first those of B itself; what is lent past them stays
+pub series-of-B :
+    (seriesJudgement fileB (1 ∷ 2 ∷ []) 3 9 ≡ accepted tt)
+    × (levelsAfter (accepted tt) fileB (1 ∷ 2 ∷ []) (replicate 3 7) ≡ 3 ∷ 4 ∷ 7 ∷ [])
+    × (blocksAfter (accepted tt) fileB (1 ∷ 2 ∷ []) (replicate 9 7) ≡ 718750000000 ∷ 612500000000 ∷ 281250000000 ∷ 175000000000 ∷ 628571428571 ∷ 476190476190 ∷ 371428571428 ∷ 219047619047 ∷ 7 ∷ [])
+unfolding sum largest anyAbove firsts over blocks big jumpRate rowSum uniformRate c maxReward jumpMillionths framing quantities fallsUpTo listing jumps room seriesRows firstHeld seriesJudgement rowMean rewardShare mix nextEntry firstVectors nextVectors U mode rightward leftward weight weightSum tailBound allowance passes? firstFrom level term weighted nearest lastQuotient weightedMean moment cell modelLevel levelAt levelsAfter blocksAfter
+series-of-B = (refl, refl, refl)
+
+-- B with the time 66,051, its bytes 00 01 02 03
+pub time-in-B : withTime fileB 66051 ≡ set (set (set fileB 10 1) 11 2) 12 3
+unfolding bytesOf withTime
+time-in-B = refl
+
+-- what stops a list: a file, its times, the level cells and the block cells that are lent, and the first row that holds
+pub record Stopped : Type 0 where
+  pub file : List ℕ
+  pub times : List ℕ
+  pub levels : ℕ
+  pub cells : ℕ
+  pub row : ℕ
+
+abbrev pub AllStopped : List Stopped → Type 0
+AllStopped [] = Unit {0}
+AllStopped (e ∷ rest) = (seriesJudgement (e .file) (e .times) (e .levels) (e .cells) ≡ refused (e .row)) × AllStopped rest
+
+-- row by row, each of the first files broken in a later row too
+abbrev pub stopped-lists : List Stopped
+stopped-lists =
+    record { file = set fileB 8 1; times = 0 ∷ []; levels = 0; cells = 0; row = 7 }
+    ∷ record { file = set fileB 12 0; times = 1 ∷ 2 ∷ []; levels = 2; cells = 8; row = 8 }
+    ∷ record { file = fileB; times = 0 ∷ replicate 8 1; levels = 0; cells = 0; row = 8 }
+    ∷ record { file = set fileB 16 0; times = []; levels = 0; cells = 0; row = 10 }
+    ∷ record { file = fileB; times = []; levels = 0; cells = 0; row = 14 }
+    ∷ record { file = fileB; times = 9 ∷ 8 ∷ 7 ∷ 6 ∷ 5 ∷ 4 ∷ 3 ∷ 2 ∷ 257 ∷ []; levels = 0; cells = 0; row = 14 }
+    ∷ record { file = fileB; times = 257 ∷ 257 ∷ []; levels = 0; cells = 0; row = 15 }
+    ∷ record { file = fileB; times = 1 ∷ 3 ∷ 2 ∷ []; levels = 3; cells = 12; row = 15 }
+    ∷ record { file = fileB; times = 1 ∷ 257 ∷ []; levels = 0; cells = 0; row = 12 }
+    ∷ record { file = fileB; times = 1 ∷ 256 ∷ []; levels = 2; cells = 7; row = 13 }
+    ∷ record { file = fileB; times = 1 ∷ 256 ∷ []; levels = 1; cells = 8; row = 13 }
+    ∷ []
+
+pub lists-stopped : AllStopped stopped-lists
+unfolding sum largest anyAbove big jumpRate rowSum uniformRate framing quantities fallsUpTo listing jumps room seriesRows firstHeld seriesJudgement
+lists-stopped = (refl, (refl, (refl, (refl, (refl, (refl, (refl, (refl, (refl, (refl, (refl, tt)))))))))))
+
+-- the file's own time is not judged at 12: B with 257 hours is accepted with the time 1, which calculate refuses
+pub own-time-unused : (seriesJudgement (set (set fileB 11 1) 12 1) (1 ∷ []) 1 4 ≡ accepted tt) × (judgement (set (set fileB 11 1) 12 1) 4 ≡ refused 12)
+unfolding sum largest anyAbove big jumpRate rowSum uniformRate framing quantities fallsUpTo listing jumps room rows seriesRows firstHeld judgement seriesJudgement
+own-time-unused = (refl, refl)
