@@ -9,7 +9,7 @@ use lib.ListN.{length, getD, take, drop, length-take, length-drop, take-append-d
 use lib.Seq.{take-at, drop-at, drop-drop, drop-append-le, getD-take, getD-drop, ext-getD, length-take-le}
 use Rattle.definitions.specs.Sums.{firsts, over, blocks}
 use Rattle.laws.specs.Rounding.{quotient-below, remainder-below, row-of-place, place-in-row, place-below}
-use Rattle.laws.specs.ListLaws.{length-firsts, firsts-same, length-over, getD-over, getD-over-past, over-none, over-same, over-further, over-again}
+use Rattle.laws.specs.ListLaws.{length-firsts, firsts-same, length-over, getD-over, getD-over-past, over-none, over-same, over-again}
 
 -- the blocks up to block k end by the end of all blocks
 pub block-end : (k count size : ℕ) → k < count → k * size + size ≤ count * size

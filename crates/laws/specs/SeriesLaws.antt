@@ -1,20 +1,20 @@
 -- Document 02, S-3: each level and each block of a series is that of a run of the file with that time alone, and demand 3 holds of it.
-use Prim.Native.Nat.{ℕ, zero, suc, _+_, _*_, _-_, _/_, _%_, _≤_, _<_, _^_}
+use Prim.Native.Nat.{ℕ, zero, suc, _+_, _*_, _/_, _%_, _≤_, _<_, _^_}
 use native.Mathlib.Omega.{arith}
 use native.Mathlib.Nat.{le-refl, mul-le-mul-right}
 use mathlib.Core.Path.{_≡_, refl, sym, _∙_, ap, ap₂, subst}
 use mathlib.Core.Bool.{false, not, _||_}
 use mathlib.Core.List.{List, [], _∷_, _++_}
 use lib.Dec.{ltb, eqb}
-use lib.ListN.{length, getD, take, drop, set, length-set, length-drop}
+use lib.ListN.{length, getD, drop, set, length-set, length-drop}
 use lib.Seq.{sets, getD-set-same, getD-set-other, length-sets, length-take-le}
 use borrow.Author.Tests.{le-ltb, ne-eqb}
-use Rattle.definitions.specs.Sums.{anyAbove, over, blocks}
+use Rattle.definitions.specs.Sums.{anyAbove, over}
 use Rattle.definitions.specs.Bytes.{big, bytesOf}
-use Rattle.definitions.specs.File.{lengthField, version, stateCount, highestMoment, toleranceField, timeField, rewardField, rateField, withTime}
+use Rattle.definitions.specs.File.{stateCount, highestMoment, timeField, rateField, withTime}
 use Rattle.definitions.specs.Chain.{Model, modelOf, atTime, jumpRate, rowSum, uniformRate}
-use Rattle.definitions.specs.Rules.{accepted, Rows, framing, quantities, jumps, room, blockSize, rows, firstHeld, judgement, seriesJudgement}
-use Rattle.definitions.specs.Moment.{cell, modelLevel, outcome, cellsAfter}
+use Rattle.definitions.specs.Rules.{accepted, Rows, framing, quantities, jumps, room, blockSize, rows, judgement, seriesJudgement}
+use Rattle.definitions.specs.Moment.{cell, modelLevel, cellsAfter}
 use Rattle.definitions.specs.Promise.{Promise}
 use Rattle.definitions.specs.Series.{modelAt, levelAt, levelsAfter, blocksAfter, block, IsRun, AreRuns, SeriesPromised}
 use Rattle.laws.specs.Rounding.{quotient-remainder, remainder-below}

@@ -1,7 +1,6 @@
 -- The running sums: none at first, one n more at a time, and their range.
 use mathlib.Core.List.{List, []}
 use mathlib.Core.Path.{_≡_, refl, sym, _∙_, ap, ap₂}
-use mathlib.Core.Bool.{true, false}
 use Prim.Native.Nat.{ℕ, _+_, _-_, _*_, _/_, _%_, _≤_, _<_, min}
 use native.Mathlib.Nat.{mul-le-mul-left, le-trans}
 use native.Mathlib.Numerals.{add-one}
@@ -15,7 +14,7 @@ use Rattle.definitions.specs.Chain.{Chain, arrays}
 use Rattle.definitions.specs.Vectors.{ONE, U}
 use Rattle.definitions.specs.Weights.{GREATEST}
 use Rattle.definitions.specs.Moment.{term}
-use Rattle.laws.specs.Rounding.{quotient-at-most, quotient-below, row-of-place}
+use Rattle.laws.specs.Rounding.{quotient-at-most, row-of-place}
 use Rattle.laws.specs.SumLaws.{sum-zero, sum-suc, sum-mono, sum-constant}
 use Rattle.laws.specs.ListLaws.{over-kept, over-same}
 use Rattle.laws.specs.BlockLaws.{length-blocks, getD-blocks, getD-next, blocks-same, blocks-again}

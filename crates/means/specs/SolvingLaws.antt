@@ -1,17 +1,16 @@
 -- The rows of weights, and that the sums and their quotients are the weighted means.
 use mathlib.Core.List.{List, _++_}
-use mathlib.Core.Path.{_≡_, refl, sym, _∙_, ap, ap₂}
-use Prim.Native.Nat.{ℕ, suc, _+_, _*_, _-_, _/_, _%_, _≤_, _<_, min}
-use native.Mathlib.Numerals.{add-one}
+use mathlib.Core.Path.{_≡_, sym, _∙_, ap, ap₂}
+use Prim.Native.Nat.{ℕ, suc, _+_, _*_, _/_, _%_, _≤_, _<_, min}
 use native.Mathlib.Decide.{ℕ-discrete}
 use native.Mathlib.Omega.{arith}
 use lib.ListN.{length, getD, take, drop, List·getD-append}
 use lib.Seq.{length-take-le, getD-take, getD-drop, drop-at}
 use Rattle.definitions.specs.declared.Sizes.{Sizes}
-use Rattle.definitions.specs.Sums.{largest, over, blocks}
+use Rattle.definitions.specs.Sums.{over, blocks}
 use Rattle.definitions.specs.Chain.{Chain, arrays}
 use Rattle.definitions.specs.Vectors.{U}
-use Rattle.definitions.specs.Weights.{weight, weightSum}
+use Rattle.definitions.specs.Weights.{weight}
 use Rattle.definitions.specs.Moment.{term, weighted, lastQuotient, weightedMean}
 use Rattle.laws.specs.SumLaws.{sum-same, le-largest, largest-le}
 use Rattle.laws.specs.ListLaws.{length-over, getD-over}

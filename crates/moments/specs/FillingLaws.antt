@@ -1,13 +1,13 @@
 -- The solution of what was read of an accepted file and list is the file's levels and blocks.
 use mathlib.Core.List.{List, [], _∷_}
-use mathlib.Core.Path.{_≡_, refl, sym, _∙_, ap, ap₂}
+use mathlib.Core.Path.{_≡_, sym, _∙_, ap, ap₂}
 use Prim.Native.Nat.{ℕ, suc, _+_, _*_, _/_, _%_, _≤_, _<_}
 use native.Mathlib.Omega.{arith}
 use lib.ListN.{length, getD}
 use Rattle.definitions.specs.declared.Sizes.{Sizes}
 use Rattle.definitions.specs.Sums.{over, blocks}
 use Rattle.definitions.specs.File.{timeField}
-use Rattle.definitions.specs.Chain.{Model, Chain, modelOf, atTime, arrays, chainOf, padded, flat, sizesOf, uniformRate, jumpMillionths}
+use Rattle.definitions.specs.Chain.{Model, Chain, modelOf, atTime, arrays, chainOf, uniformRate, jumpMillionths}
 use Rattle.definitions.specs.Vectors.{U}
 use Rattle.definitions.specs.Weights.{weight, weightSum}
 use Rattle.definitions.specs.Level.{level}
@@ -17,7 +17,7 @@ use Rattle.definitions.specs.Series.{modelAt, levelAt, levelsAfter, blocksAfter
 use Rattle.laws.specs.SumLaws.{sum-same}
 use Rattle.laws.specs.ListLaws.{getD-over, over-same}
 use Rattle.laws.specs.BlockLaws.{blocks-same, blocks-one}
-use Rattle.laws.specs.ChainLaws.{SameChain, arrays-same, rate-at, chain-at, sizes-at}
+use Rattle.laws.specs.ChainLaws.{arrays-same, rate-at, chain-at, sizes-at}
 use Rattle.laws.specs.VectorLaws.{U-same}
 use Rattle.laws.specs.MomentLaws.{state-of-cell}
 use Rattle.laws.specs.Acceptance.{WithinLimits, AcceptedSeries}

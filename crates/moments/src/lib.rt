@@ -1,6 +1,5 @@
 // The moments of the accumulated reward: a file in, the level and the moments out, for its own time or for a list of times.
 ghost use mathlib.Core.Path.{_≡_};
-ghost use mathlib.Core.List.{_∷_, []};
 ghost use Prim.Native.Nat.{_*_, _^_, _<_, _≤_};
 ghost use lib.ListN.{length, getD};
 ghost use Rattle.definitions.specs.Sums.{over};

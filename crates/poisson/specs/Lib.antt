@@ -1,3 +1,2 @@
--- What poisson's contracts cite besides document 01's definitions, and the laws that its callers cite.
+-- What poisson's contracts cite besides document 01's definitions.
 pub mod Stages
-pub mod CallerLaws

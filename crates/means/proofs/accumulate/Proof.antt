@@ -33,6 +33,10 @@ blocks-max c =
     let block = count-max (c .args .sizes .states) (c .args .sizes .highest) (c .pre .0 .ready .rewards .states-max) (c .pre .0 .highest-max) in
     (block, mul-le-mul {n₂ = 8} {m₂ = 512} (c .pre .0 .count-max) block)
 
+-- the blocks that are cleared lie in the cells
+clear-requires : tie.Need-clear-requires Inv-loop μ-loop
+clear-requires c κs = omega (arith, c .before .before .before .before .before .before .before .before .pre .2)
+
 add-requires : tie.Need-add-to-blocks-requires Inv-loop μ-loop
 add-requires c κs =
     let start = c .before .before .before .before .before .before .before .before .before .before .before .before .before in
@@ -109,7 +113,7 @@ accumulate-spec =
     first-table-requires
     (λ c. omega (arith, blocks-max (c .before .before .before .before .before .before .before) .0))
     (λ c. omega (arith, blocks-max (c .before .before .before .before .before .before .before) .1))
-    (λ c κs. c .before .before .before .before .before .before .before .before .pre .2)
+    clear-requires
     add-requires
     loop-holds
     (λ c. omega arith)

@@ -3,7 +3,6 @@ use Prim.Native.Nat.{ℕ, _+_, _-_, _*_, _≤_, _<_}
 use native.Mathlib.Omega.{arith}
 use native.Mathlib.Nat.{mul-le-mul}
 use mathlib.Core.Path.{_≡_, refl, sym, _∙_, ap}
-use mathlib.Core.List.{List}
 use lib.ListN.{length, getD, take, drop}
 use Rattle.definitions.specs.Sums.{blocks}
 use Rattle.definitions.specs.Moment.{lastQuotient}

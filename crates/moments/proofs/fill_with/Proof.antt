@@ -7,7 +7,6 @@ use lib.ListN.{length, getD, take}
 use lib.Seq.{length-take-le, getD-take}
 use Rattle.definitions.specs.declared.Sizes.{Sizes}
 use Rattle.definitions.specs.Chain.{modelOf, uniformRate}
-use Rattle.definitions.specs.Series.{modelAt}
 use Rattle.laws.specs.ChainLaws.{rate-at}
 use Rattle.laws.specs.ListLaws.{getD-over}
 use Rattle.moments.specs.Filling.{ReadAs}
