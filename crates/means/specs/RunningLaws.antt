@@ -88,10 +88,11 @@ module _ (ch : Chain) (levels w : List ℕ) (R : ℕ) (l : List ℕ) (enough : l
   sums-at n k c hk hc = getD-blocks (ch .states * R) 0 (length levels) _ l k c hk hc
 
   -- no terms yet
-  pub sums-none : over (length levels * (ch .states * R)) (λ k. 0) l ≡ partSums ch levels w R 0 l
+  pub sums-none : (count : ℕ) → count ≡ length levels * (ch .states * R) → over count (λ k. 0) l ≡ partSums ch levels w R 0 l
   unfolding partSums blocks
-  sums-none =
-      over-same (length levels * (ch .states * R)) (λ k. 0) _ l
+  sums-none count all =
+      ap (λ (n : ℕ). over n (λ k. 0) l) all
+      ∙ over-same (length levels * (ch .states * R)) (λ k. 0) _ l
       (λ p b. part-none ch (rowFrom w (p / (ch .states * R))) R (p % (ch .states * R)) ∙ ap (λ (n : ℕ). partSum ch (rowFrom w (p / (ch .states * R))) R n (p % (ch .states * R))) (omega arith))
 
   -- over cells that hold sums already it does not matter what stood there before

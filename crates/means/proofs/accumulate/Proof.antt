@@ -40,7 +40,7 @@ clear-requires c κs = omega (arith, c .before .before .before .before .before .
 add-requires : tie.Need-add-to-blocks-requires Inv-loop μ-loop
 add-requires c κs =
     let start = c .before .before .before .before .before .before .before .before .before .before .before .before .before in
-    may-add (start .args .sizes) _ _ _ _ (start .pre .0) (start .args .cells .now) (start .pre .2) 0 _ _ (c .before .before .before .before .clear .ensures ∙ sums-none _ _ _ _ _ (start .pre .2)) (c .before .before .before .before .before .before .before .first-table .ensures (start .args .chain .now))
+    may-add (start .args .sizes) _ _ _ _ (start .pre .0) (start .args .cells .now) (start .pre .2) 0 _ _ (c .before .before .before .before .clear .ensures ∙ sums-none _ _ _ _ _ (start .pre .2) _ (omega arith)) (c .before .before .before .before .before .before .before .first-table .ensures (start .args .chain .now))
 
 -- where the loop begins the sums have the terms of n = 0
 module _ (b : tie.After-slice-known3 Inv-loop μ-loop) where
@@ -60,7 +60,7 @@ module _ (b : tie.After-slice-known3 Inv-loop μ-loop) where
   table = b .before .before .before .before .before .before .before .before .before .before .first-table .ensures (start .args .chain .now)
 
   begun : first ≡ sums 1 (start .args .cells .now)
-  begun = added (start .args .sizes) _ _ _ _ (start .pre .0) (start .args .cells .now) (start .pre .2) 0 _ _ _ (b .before .before .before .before .before .before .before .clear .ensures ∙ sums-none _ _ _ _ _ (start .pre .2)) table (b .before .before .add-to-blocks .ensures)
+  begun = added (start .args .sizes) _ _ _ _ (start .pre .0) (start .args .cells .now) (start .pre .2) 0 _ _ _ (b .before .before .before .before .before .before .before .clear .ensures ∙ sums-none _ _ _ _ _ (start .pre .2) _ (omega arith)) table (b .before .before .add-to-blocks .ensures)
 
   -- over them it does not matter what stood in the cells before
   again : (n : ℕ) → sums n first ≡ sums n (start .args .cells .now)

@@ -1,7 +1,7 @@
 -- Past the level the sums stay; up to it the terms are added.
 use native.Mathlib.Omega.{arith}
 use mathlib.Core.Path.{_∙_}
-use Prim.Native.Nat.{ℕ, _≤_}
+use Prim.Native.Nat.{ℕ, _≤_, _<_}
 use borrow.Author.Needs.{needs}
 use Rattle.means.specs.Running.{inTable}
 use Rattle.means.specs.RunningLaws.{terms-up-to, terms-past}
@@ -20,11 +20,17 @@ reached c = omega arith
 abbrev entries : tie.Start → ℕ → ℕ
 entries c e = inTable (c .args .table .now) (c .args .sizes .highest) e
 
+returns : tie.Need-returns
+returns c =
+    let begin = c .before .before .before in
+    let past : begin .args .level < begin .args .n = omega arith in
+    terms-past (begin .args .cells .now) (begin .args .row .now) _ _ _ (entries begin) past (begin .pre .2)
+
 pub add-up-to-level-spec : {M : Type 1} → statement M
 add-up-to-level-spec =
     tie.close
     (tie.spec
-    (λ c. let begin = c .before .before .before in terms-past (begin .args .cells .now) (begin .args .row .now) _ _ _ (entries begin) (c .if1 .taken) (begin .pre .2))
+    returns
     (λ c. omega (arith, start c .pre .0 (reached c)))
     (λ c. start (c .before) .pre .0 (reached (c .before)))
     (λ c κs. start (c .before .before) .pre .1 (reached (c .before .before)))
