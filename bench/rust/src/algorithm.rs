@@ -9,6 +9,7 @@ use definitions::{Outcome, Series};
 
 mod definitions {
     pub const ONE: u64 = 1_000_000_000_000;
+    pub const MOST_TIMES: usize = 8;
 
     pub enum Judgement {
         Accepted,
@@ -85,8 +86,8 @@ mod reader {
         be(file, TOLERANCE_AT, 4)
     }
 
-    pub fn time(file: &[u8]) -> u64 {
-        be(file, TIME_AT, 4)
+    pub fn time(file: &[u8]) -> u32 {
+        be(file, TIME_AT, 4) as u32
     }
 
     pub fn rewards_of(file: &[u8]) -> [u64; 64] {
@@ -166,8 +167,8 @@ mod reader {
         Sizes { states, highest, rate, largest }
     }
 
-    pub fn jump_millionths(rate: u64, time: u64) -> u64 {
-        rate * time
+    pub fn jump_millionths(rate: u64, time: u32) -> u64 {
+        rate * time as u64
     }
 
     fn write_row(file: &[u8], i: usize, diagonal: u64, chain: &mut [u32]) {
@@ -187,7 +188,7 @@ mod reader {
 }
 
 mod refusals {
-    use super::definitions::Judgement;
+    use super::definitions::{Judgement, MOST_TIMES};
     use super::reader;
 
     const HEADER: usize = 13;
@@ -197,7 +198,6 @@ mod refusals {
     const MOST_REWARD: u64 = 1_000_000;
     const MOST_ROW_SUM: u64 = 10_000_000;
     const MOST_JUMPS: u64 = 256_000_000;
-    pub const MOST_TIMES: u64 = 8;
 
     fn outside(x: u64, most: u64) -> bool {
         x == 0 || x > most
@@ -272,11 +272,11 @@ mod refusals {
         }
     }
 
-    pub fn too_many_jumps(rate: u64, time: u64) -> bool {
+    pub fn too_many_jumps(rate: u64, time: u32) -> bool {
         reader::jump_millionths(rate, time) > MOST_JUMPS
     }
 
-    fn judge_run(file: &[u8], rate: u64, time: u64, blocks: usize, cells: usize) -> Judgement {
+    fn judge_run(file: &[u8], rate: u64, time: u32, blocks: usize, cells: usize) -> Judgement {
         if too_many_jumps(rate, time) {
             return Judgement::Refused(12);
         }
@@ -304,19 +304,15 @@ mod refusals {
         false
     }
 
-    fn wide(x: u32) -> u64 {
-        x as u64
-    }
-
     fn judge_times(file: &[u8], rate: u64, times: &[u32], levels: usize, cells: usize) -> Judgement {
         let count = times.len();
-        if outside(count as u64, MOST_TIMES) {
+        if outside(count as u64, MOST_TIMES as u64) {
             return Judgement::Refused(14);
         }
         if falls(times) {
             return Judgement::Refused(15);
         }
-        let run = judge_run(file, rate, wide(times[count - 1]), count, cells);
+        let run = judge_run(file, rate, times[count - 1], count, cells);
         if let Judgement::Refused(k) = run {
             return Judgement::Refused(k);
         }
@@ -481,7 +477,7 @@ mod vectors {
 }
 
 mod means {
-    use super::definitions::{Sizes, ONE};
+    use super::definitions::{Sizes, MOST_TIMES, ONE};
     use super::{muldiv, poisson, vectors};
 
     fn clear(count: usize, cells: &mut [u64]) {
@@ -614,7 +610,7 @@ mod means {
         cells: &mut [u64],
     ) {
         let count = xs.len();
-        let mut totals = [0u64; 8];
+        let mut totals = [0u64; MOST_TIMES];
         let largest = truncate_each(xs, tolerance, levels, &mut totals, weights);
         accumulate(sizes, chain, rewards, &levels[..count], largest, weights, cells);
         divide_blocks(&totals[..count], sizes.states * sizes.highest, cells);
@@ -622,20 +618,14 @@ mod means {
 }
 
 mod moments {
-    use super::definitions::{Judgement, Outcome, Series};
+    use super::definitions::{Judgement, Outcome, Series, MOST_TIMES};
     use super::{means, poisson, reader, refusals};
 
     const FEW_STATES: usize = 16;
-    const MOST_TIMES: usize = 8;
-
-    fn wide(x: u32) -> u64 {
-        x as u64
-    }
-
     fn write_jumps(rate: u64, times: &[u32], xs: &mut [u64]) {
         let count = times.len();
         for k in 0..count {
-            xs[k] = reader::jump_millionths(rate, wide(times[k]));
+            xs[k] = reader::jump_millionths(rate, times[k]);
         }
     }
 
@@ -670,7 +660,7 @@ mod moments {
     }
 
     fn fill_own(file: &[u8], cells: &mut [u64]) -> u64 {
-        let times = [reader::time(file) as u32];
+        let times = [reader::time(file)];
         let mut weights = [0u64; poisson::LEVELS];
         let mut levels = [0u64];
         fill(file, &times, &mut weights, &mut levels, cells);

@@ -4,6 +4,9 @@
 // ONE: 10^12 ticks.
 pub const ONE: u64 = 1_000_000_000_000;
 
+// A list has at most this many times.
+pub const MOST_TIMES: usize = 8;
+
 // What a table of refusals says of a file: accepted, or the number of its first row that holds.
 pub enum Judgement {
     Accepted,

@@ -12,6 +12,7 @@ ghost use Rattle.definitions.specs.Moment.{term, lastQuotient};
 ghost use Rattle.laws.specs.LevelLaws.{LEVELS};
 ghost use Rattle.means.specs.Running.{inTable, rowFrom, termAt, partSums, Topmost, Addable, AllAddable, Summable, Divisible, AllDivisible};
 ghost use Rattle.means.specs.Solving.{Truncatable, Truncations, levelOf, meansOf, Solvable};
+use definitions::MOST_TIMES;
 use definitions::ONE;
 use definitions::Sizes;
 
@@ -189,7 +190,7 @@ pub fn solve(
     ensures cells { λ r. ⌜ now (cells .exit) ≡ blocks (sizes .states * sizes .highest) (length (now (xs .entry))) (meansOf (arrays sizes (now (chain .entry)) (now (rewards .entry))) (now (xs .entry)) tolerance (sizes .highest)) (now (cells .entry)) ⌝ }
 {
     let count = xs.len();
-    let mut totals = [0u64; 8];
+    let mut totals = [0u64; MOST_TIMES];
     let largest = truncate_each(xs, tolerance, levels, &mut totals, weights);
     accumulate(
         sizes,

@@ -12,21 +12,13 @@ ghost use Rattle.definitions.specs.Series.{seriesAnswer, levelsAfter, blocksAft
 ghost use Rattle.laws.specs.Acceptance.{AcceptedFile, AcceptedSeries};
 ghost use Rattle.laws.specs.LevelLaws.{LEVELS};
 use definitions::Judgement;
+use definitions::MOST_TIMES;
 use definitions::Outcome;
 use definitions::Series;
 
 // At most this many states have their chain in a smaller array: a small file does not pay for the clearing
 // of a large one.
 const FEW_STATES: usize = 16;
-
-// A list has at most this many times.
-const MOST_TIMES: usize = 8;
-
-fn wide(x: u32) -> u64
-    ensures { λ r. ⌜ (r ≡ x) × (r < 2 ^ 32) ⌝ }
-{
-    x as u64
-}
 
 // X of each time, in the first entries of what is lent.
 fn write_jumps(rate: u64, times: &[u32], xs: &mut [u64])
@@ -35,7 +27,7 @@ fn write_jumps(rate: u64, times: &[u32], xs: &mut [u64])
 {
     let count = times.len();
     for k in 0..count {
-        xs[k] = reader::jump_millionths(rate, wide(times[k]));
+        xs[k] = reader::jump_millionths(rate, times[k]);
     }
 }
 
@@ -95,7 +87,7 @@ fn fill_own(file: &[u8], cells: &mut [u64]) -> u64
     requires { ⌜ AcceptedFile (now file) (length (now cells)) ⌝ }
     ensures { λ n. ⌜ (n ≡ modelLevel (modelOf (now (file .entry)))) × (now (cells .exit) ≡ cellsAfter (accepted n) (now (file .entry)) (now (cells .entry))) ⌝ }
 {
-    let times = [reader::time(file) as u32];
+    let times = [reader::time(file)];
     let mut weights = [0u64; poisson::LEVELS];
     let mut levels = [0u64];
     fill(file, &times, &mut weights, &mut levels, cells);

@@ -112,11 +112,11 @@ pub fn tolerance(file: &[u8]) -> u64
 }
 
 // T, the time in whole hours.
-pub fn time(file: &[u8]) -> u64
+pub fn time(file: &[u8]) -> u32
     requires { ⌜ 13 ≤ length (now file) ⌝ }
-    ensures { λ r. ⌜ (r ≡ timeField (now (file .entry))) × (r < 2 ^ 32) ⌝ }
+    ensures { λ r. ⌜ r ≡ timeField (now (file .entry)) ⌝ }
 {
-    be(file, TIME_AT, 4)
+    be(file, TIME_AT, 4) as u32
 }
 
 // 4. The rewards.
@@ -242,11 +242,11 @@ pub fn sizes_of(file: &[u8], sums: &[u64; 64]) -> Sizes
 }
 
 // X = E × T, the expected jump count in millionths, for one time.
-pub fn jump_millionths(rate: u64, time: u64) -> u64
-    requires { ⌜ (rate < 2 ^ 32) × (time < 2 ^ 32) ⌝ }
+pub fn jump_millionths(rate: u64, time: u32) -> u64
+    requires { ⌜ rate < 2 ^ 32 ⌝ }
     ensures { λ r. ⌜ r ≡ rate * time ⌝ }
 {
-    rate * time
+    rate * time as u64
 }
 
 // 6. The chain c, row after row without gaps: c(i,j) is entry M × i + j.

@@ -15,6 +15,7 @@ ghost use Rattle.definitions.specs.Rules.{framing, startsAtZero, quantities, fa
 ghost use Rattle.laws.specs.Acceptance.{Framed};
 ghost use Rattle.refusals.specs.Rated.{ratedAs};
 use definitions::Judgement;
+use definitions::MOST_TIMES;
 
 // The header's bytes, and the largest number that each row lets pass.
 
@@ -31,8 +32,6 @@ const MOST_REWARD: u64 = 1_000_000;
 const MOST_ROW_SUM: u64 = 10_000_000;
 
 const MOST_JUMPS: u64 = 256_000_000;
-
-pub const MOST_TIMES: u64 = 8;
 
 fn outside(x: u64, most: u64) -> bool
     ensures { λ r. ⌜ r ≡ (eqb x 0 || ltb most x) ⌝ }
@@ -125,16 +124,16 @@ pub fn judge_model(file: &[u8], times: &[u32]) -> Rated
 }
 
 // Row 12, for one time: E × T is above its limit.
-pub fn too_many_jumps(rate: u64, time: u64) -> bool
-    requires { ⌜ (rate < 2 ^ 32) × (time < 2 ^ 32) ⌝ }
+pub fn too_many_jumps(rate: u64, time: u32) -> bool
+    requires { ⌜ rate < 2 ^ 32 ⌝ }
     ensures { λ r. ⌜ r ≡ tooManyJumps rate time ⌝ }
 {
     reader::jump_millionths(rate, time) > MOST_JUMPS
 }
 
 // Rows 12 and 13, for one time and a number of blocks: the jumps, and the room for the moments.
-fn judge_run(file: &[u8], rate: u64, time: u64, blocks: usize, cells: usize) -> Judgement
-    requires { ⌜ Framed (now file) × (highestMoment (now file) ≤ 8) × (rate < 2 ^ 32) × (time < 2 ^ 32) × (blocks ≤ 8) ⌝ }
+fn judge_run(file: &[u8], rate: u64, time: u32, blocks: usize, cells: usize) -> Judgement
+    requires { ⌜ Framed (now file) × (highestMoment (now file) ≤ 8) × (rate < 2 ^ 32) × (blocks ≤ 8) ⌝ }
     ensures { λ r. ⌜ verdict r ≡ judgedBy (jumps rate time ++ room (blocks * blockSize (now (file .entry))) cells) ⌝ }
 {
     if too_many_jumps(rate, time) {
@@ -171,12 +170,6 @@ fn falls(times: &[u32]) -> bool
     false
 }
 
-fn wide(x: u32) -> u64
-    ensures { λ r. ⌜ (r ≡ x) × (r < 2 ^ 32) ⌝ }
-{
-    x as u64
-}
-
 // Rows 14, 15, 12 and 13: the list of times, then the jumps up to its last one, and the room for a block
 // and a level of each.
 fn judge_times(file: &[u8], rate: u64, times: &[u32], levels: usize, cells: usize) -> Judgement
@@ -184,13 +177,13 @@ fn judge_times(file: &[u8], rate: u64, times: &[u32], levels: usize, cells: usiz
     ensures { λ r. ⌜ verdict r ≡ judgedBy (listing (now (times .entry)) ++ (jumps rate (lastTime (now (times .entry))) ++ room (length (now (times .entry)) * blockSize (now (file .entry))) cells) ++ room (length (now (times .entry))) levels) ⌝ }
 {
     let count = times.len();
-    if outside(count as u64, MOST_TIMES) {
+    if outside(count as u64, MOST_TIMES as u64) {
         return Judgement::Refused(14);
     }
     if falls(times) {
         return Judgement::Refused(15);
     }
-    let run = judge_run(file, rate, wide(times[count - 1]), count, cells);
+    let run = judge_run(file, rate, times[count - 1], count, cells);
     if let Judgement::Refused(k) = run {
         return Judgement::Refused(k);
     }

@@ -18,14 +18,14 @@ fill-requires c κs =
     let start = c .before .before .before .before .before .before .before in
     let s = start .args .file .now in
     let cells = length (start .args .cells .now) in
-    (subst (λ (t : ℕ). AcceptedSeries s (t ∷ []) 1 cells) (sym (c .before .before .before .before .time .ensures .0)) (one-time s cells (start .pre)), omega arith)
+    (subst (λ (t : ℕ). AcceptedSeries s (t ∷ []) 1 cells) (sym (c .before .before .before .before .time .ensures)) (one-time s cells (start .pre)), omega arith)
 
 returns : tie.Need-returns
 returns c =
     let start = c .before .before .before .before .before .before .before .before .before .before .before .before in
     let s = start .args .file .now in
     let cells = start .args .cells .now in
-    let time = c .before .before .before .before .before .before .before .before .before .time .ensures .0 in
+    let time = c .before .before .before .before .before .before .before .before .before .time .ensures in
     let filled = c .before .before .before .before .fill .ensures in
     let level = ap (λ (l : List ℕ). getD l 0 0) (filled .0) ∙ ap (λ (t : ℕ). getD (levelsAfter (accepted tt) s (t ∷ []) (0 ∷ [])) 0 0) time ∙ own-level s (0 ∷ []) in
     (level, filled .1 ∙ ap (λ (t : ℕ). blocksAfter (accepted tt) s (t ∷ []) cells) time ∙ own-block s cells ∙ ap (λ (n : ℕ). cellsAfter (accepted n) s cells) (sym level))
@@ -35,7 +35,6 @@ fill-own-spec =
     tie.close
     (tie.spec
     (λ c κs. search needs)
-    (λ c. omega (arith, c .time .ensures .1))
     (λ c. search needs)
     (λ c. search needs)
     (λ c. search needs)

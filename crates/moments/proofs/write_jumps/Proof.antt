@@ -1,7 +1,7 @@
 -- X of each time, one after the other.
-use Prim.Native.Nat.{ℕ, _-_, _*_, _≤_}
+use Prim.Native.Nat.{_-_, _*_, _≤_}
 use native.Mathlib.Omega.{arith}
-use mathlib.Core.Path.{_≡_, refl, sym, _∙_, ap}
+use mathlib.Core.Path.{_≡_, refl, sym}
 use lib.ListN.{length, getD, length-set}
 use Rattle.definitions.specs.Sums.{over}
 use Rattle.laws.specs.ListLaws.{over-none, over-store}
@@ -17,10 +17,10 @@ abbrev μ-loop : tie.MeasureT-loop
 
 loop-again : tie.Need-loop-again Inv-loop μ-loop
 loop-again c =
-    let turn = c .before .before .before .before .loop in
-    let start = c .before .before .before .before .before .before .before in (
+    let turn = c .before .before .before .loop in
+    let start = c .before .before .before .before .before .before in (
       omega arith,
-      over-store (turn .k) _ _ _ (c .jump-millionths .result) (omega (arith, start .pre .1)) (turn .inv .1) (c .jump-millionths .ensures ∙ ap (λ (t : ℕ). start .args .rate * t) (c .before .wide .ensures .0)),
+      over-store (turn .k) _ _ _ (c .jump-millionths .result) (omega (arith, start .pre .1)) (turn .inv .1) (c .jump-millionths .ensures),
       simp length-set (turn .inv .2),
     )
 
@@ -38,10 +38,9 @@ write-jumps-spec =
     (λ c. (omega arith, sym (over-none _ _), refl))
     (λ c. omega arith)
     (λ c. omega arith)
-    (λ c κs. tt)
-    (λ c κs. (c .before .before .before .before .before .before .pre .0, c .wide .ensures .1))
+    (λ c κs. c .before .before .before .before .before .pre .0)
     (λ c. omega arith)
-    (λ c. omega (arith, c .before .before .before .before .before .before .before .pre .1))
+    (λ c. omega (arith, c .before .before .before .before .before .before .pre .1))
     (λ c. omega arith)
     (λ c. omega arith)
     loop-again

@@ -22,7 +22,7 @@ time-requires c κs = omega (arith, told c .framed .size)
 judge-run-requires : tie.Need-judge-run-requires
 judge-run-requires c κs =
     let t = told (c .before) in
-    (t .framed, t .highest-max, omega arith, omega arith, omega arith)
+    (t .framed, t .highest-max, omega arith, omega arith)
 
 returns : tie.Need-returns
 returns c =

@@ -40,7 +40,7 @@ abbrev start15 : tie.Else2 → tie.Start
 start15 c = start14 (c .before .before)
 
 abbrev start-run : tie.After-judge-run → tie.Start
-start-run c = start15 (c .before .before .before)
+start-run c = start15 (c .before .before)
 
 -- past its test there are 1 to 8 times
 counted : (c : tie.Else1) → wrongCount (times (start14 c)) ≡ false
@@ -66,7 +66,7 @@ past-list c =
     let start = start-run c in
     let given = c .judge-run .ensures
     ∙ same-run (start .args .rate) (lastTime (times start)) (length (times start) * blockSize (start .args .file .now)) (start .args .cells) refl (omega arith) (omega arith) refl in
-    past-15 (c .before .before .before)
+    past-15 (c .before .before)
     ∙ in-parts (run start) (levels start) tt tt
     ∙ ap (λ (a : Answer (Unit {0})). andThen a (judgedBy (levels start))) (sym given)
 
@@ -82,8 +82,8 @@ returns-2 c = sym (past-14 (c .before .before) ∙ row-stops 15 _ _ _ (sym (c .b
 
 judge-run-requires : tie.Need-judge-run-requires
 judge-run-requires c κs =
-    let args = c .before .before .before .before .before .before .before .before in
-    (args .pre .0, args .pre .1, args .pre .2, omega arith, omega (arith, count (c .before .before .before .before)))
+    let args = c .before .before .before .before .before .before .before in
+    (args .pre .0, args .pre .1, args .pre .2, omega (arith, count (c .before .before .before)))
 
 returns-3 : tie.Need-returns-3
 returns-3 c =
@@ -113,7 +113,6 @@ judge-times-spec =
     (λ c. omega (arith, count (c .before .before)))
     (λ c. search needs)
     (λ c. omega (arith, count (c .before .before .before)))
-    (λ c κs. search needs)
     judge-run-requires
     (λ c. search needs)
     returns-3
