@@ -1,17 +1,22 @@
 #!/usr/bin/env python3
-"""The definitions tried by an outside program: what the reference says of small generated files, as theorems.
+"""The definitions tried by an outside program: what the reference says of small generated files, alone and with lists
+of times, as theorems.
 
     python3 tests/definitions/try.py             every statement must be proved
-    python3 tests/definitions/try.py --wrong     one number of each kind in a file is altered; each must be refused
-    --seed N    other files          --keep    leave the scratch crate, and say where it stands
+    python3 tests/definitions/try.py --wrong     one number of each kind in a case is altered; each must be refused
+    --seed N    other files and times          --keep    leave the scratch crate, and say where it stands
 
 Each file is a theorem three times: what a call answers (the level, or the refusal's number), all cells after
-the call (also those past the moments, which stay), and the bytes of the printed sheet. The numbers are the
+the call (also those past the moments, which stay), and the bytes of the printed sheet. Each file with a list of
+times (document 02, S-3) is one three times too: what the list's table answers, all level cells and all block cells
+after the call (also those past the last level and block, which stay). A fourth says which bytes the file has with
+the list's last time in the place of its own, where the list is accepted or row 12 stops it. The numbers are the
 reference's. The theorems stand in a scratch crate outside the repository, which cites crates/definitions and is
 checked by `rt check DIR`. A refusal counts only where the prover names the altered statement and says that its
 two sides differ, and for each kind of number it must have shown the right and the altered one side by side.
 """
 
+import copy
 import pathlib
 import random
 import re
@@ -27,6 +32,7 @@ ROOT = pathlib.Path(__file__).resolve().parent.parent.parent
 sys.path.insert(0, str(ROOT / "reference"))
 
 import calculator  # noqa: E402
+import inputs  # noqa: E402
 import models  # noqa: E402
 
 # --- All that names a definition. Those to unfold are read from the crate's specs/ (`unfoldable`). ------------
@@ -36,26 +42,31 @@ use Prim.Native.Nat.{ℕ}
 use mathlib.Core.List.{List, [], _∷_}
 use mathlib.Core.Path.{_≡_, refl}
 use lib.ListN.{length}
-use Rattle.definitions.specs.Rules.{accepted, refused}
+use Rattle.definitions.specs.Rules.{accepted, refused, lastTime}
 """
 USE = "use Rattle.definitions.specs.{module}.{{{names}}}\n"
-FILE = """
+LENT = """
 abbrev {name} : List ℕ
-{name} = {file}
-
-abbrev {name}-lent : List ℕ
-{name}-lent = {lent}
+{name} = {value}
 """
 THEOREM = """
 pub {name}-{label} : {left} ≡ {right}
 unfolding {unfolded}
 {name}-{label} = refl
 """
-ANSWER = {"level": "accepted {}", "refused": "refused {}"}
+ANSWER = {"level": "accepted {}", "refused": "refused {}", "times": "accepted tt"}
 LEFT = {
-    "answer": "outcome {name} (length {name}-lent)",
-    "cells": "cellsAfter (outcome {name} (length {name}-lent)) {name} {name}-lent",
-    "sheet": "printedSheet {name}",
+    "calculate": {
+        "answer": "outcome {file} (length {cells})",
+        "cells": "cellsAfter (outcome {file} (length {cells})) {file} {cells}",
+        "sheet": "printedSheet {file}",
+    },
+    "series": {
+        "answer": "seriesJudgement {file} {times} (length {levels}) (length {cells})",
+        "levels": "levelsAfter (seriesJudgement {file} {times} (length {levels}) (length {cells})) {file} {times} {levels}",
+        "cells": "blocksAfter (seriesJudgement {file} {times} (length {levels}) (length {cells})) {file} {times} {cells}",
+        "file": "withTime {file} (lastTime {times})",
+    },
 }
 
 # --- The files ------------------------------------------------------------------------------------------------
@@ -63,8 +74,8 @@ LEFT = {
 # Models of the comparison kit whose last division leaves half of its divisor for some moment, or a little less or more.
 HALVES = ["half-tick-3", "half-tick-to-one-1", "half-tick-to-one-less", "half-tick-to-a-tick-1", "half-tick-to-a-tick-less", "half-tick-one-less-2", "half-tick-to-0-1-more"]
 
-# A file with the cells lent, and the rule that stops it (0: none).
-Case = namedtuple("Case", "name rule file lent")
+# A call of the reference with what is lent to it, {parameter: value}, and the rule that stops it (0: none).
+Case = namedtuple("Case", "call name rule given")
 
 
 def small(rng, M, R, most=1_000_000, T=2):
@@ -120,15 +131,77 @@ def refused_files(rng):
     ]
 
 
-def cases(rng):
+def lent(rng, count):
+    """So many cells with numbers of chance, which tell what a call leaves."""
+    return [rng.randint(1, 99) for _ in range(count)]
+
+
+def file_cases(rng, accepted, refused):
     """Every file with its cells: two more than the moments need; one for rule 12 before 13; one less than needed for 13."""
-    def lent(count):
-        return [rng.randint(1, 99) for _ in range(count)]
-    result = [Case(name, 0, file, lent(file[3] * file[4] + 2)) for name, file in accepted_files(rng)]
-    refused = refused_files(rng)
-    result += [Case(f"rule-{rule}-{place}", rule, file, lent(4)) for place, (rule, file) in enumerate(refused)]
-    result.append(Case("rule-12-before-13", 12, refused[-1][1], lent(1)))
-    return result + [Case("rule-13", 13, models.build(**small(rng, 2, 2)), lent(3))]
+    def case(name, rule, file, count):
+        return Case("calculate", name, rule, dict(file=file, cells=lent(rng, count)))
+    result = [case(name, 0, file, inputs.need(file) + 2) for name, file in accepted]
+    result += [case(f"rule-{rule}-{place}", rule, file, 4) for place, (rule, file) in enumerate(refused)]
+    result.append(case("rule-12-before-13", 12, refused[-1][1], 1))
+    return result + [case("rule-13", 13, models.build(**small(rng, 2, 2)), 3)]
+
+
+# --- The files with lists of times ----------------------------------------------------------------------------
+
+# The accepted files that get a list no row stops, and how many times it has.
+TIMES = {"one-state": 1, "one-state-q-above-1": 4, "two-states": 3, "three-states": 2, "q-below-1": 4, "absorbing-state": 2, "no-rates": 8, "at-the-borders": 2, "half-tick-3": 2, "half-tick-to-one-less": 3}
+
+
+def rising(rng, file, count):
+    """So many times, the file's own among them; the others for eight jumps at most, or the first hours where these are too few."""
+    most = max(count, inputs.longest_time(file) // 32)
+    times = {inputs.own_time(file)}
+    while len(times) < count:
+        times.add(models.log_uniform(rng, 1, most))
+    return sorted(times)
+
+
+def refused_lists(files, stopped):
+    """(rule, file, times, count of level cells, of block cells) of lists that a row stops. Most break later rows too: a
+    list of 9 zeros 8, 14 and 15, an empty one 14, and `few` cells 13 for every list that has a time."""
+    two = files["two-states"]
+    longest = inputs.longest_time(two)
+    few = 1, 3
+    return [
+        *((rule, stopped[rule], [0] * 9, *few) for rule in range(1, 8)),
+        (8, stopped[8], [2, 1], *few),
+        (8, stopped[9], [0, 1, 1], *few),
+        *((rule, stopped[rule], [], *few) for rule in (9, 10, 11)),
+        (14, two, [], *few),
+        (14, two, [longest + 1] * 9, *few),
+        (15, two, [longest + 1, longest + 1], *few),
+        (15, two, [1, 2, 4, 0], *few),
+        (12, two, [1, longest + 1], *few),
+        (12, two, [models.MAX_WORD], *few),
+        (13, two, [1, longest], 1, 8),
+        (13, two, [1, longest], 2, 7),
+    ]
+
+
+def list_cases(rng, files, stopped):
+    """Every list with its file and its cells. Those of an accepted list are as many as needed, or one or two more, and its
+    file mostly has a time of its own that the list has not."""
+    def case(name, rule, file, times, levels, cells):
+        return Case("series", f"list-{name}", rule, dict(file=file, times=times, levels=lent(rng, levels), cells=lent(rng, cells)))
+    result = []
+    for place, (name, count) in enumerate(TIMES.items()):
+        file, more = files[name], (place + 2) % 3
+        other = inputs.with_time(file, inputs.another_time(rng, file))
+        result.append(case(name, 0, other, rising(rng, file, count), count + more, count * inputs.need(file) + more))
+    for place, (rule, *given) in enumerate(refused_lists(files, stopped)):
+        result.append(case(f"rule-{rule}-{place}", rule, *given))
+    return result
+
+
+def cases(rng):
+    """All files alone, then some of them with lists."""
+    accepted, refused = accepted_files(rng), refused_files(rng)
+    return file_cases(rng, accepted, refused) + list_cases(rng, dict(accepted), dict(refused))
 
 
 # --- What is stated of them -----------------------------------------------------------------------------------
@@ -139,33 +212,55 @@ Fact = namedtuple("Fact", "case label part value")
 
 def right_facts(case):
     """What the reference says of a case."""
-    cells = list(case.lent)
-    answer = calculator.calculate(case.file, cells)
+    given = copy.deepcopy(case.given)
+    answer = getattr(calculator, case.call)(**given)
     if (answer[1] if answer[0] == "refused" else 0) != case.rule:
-        sys.exit(f"try.py: {case.name} is answered {answer}: the file does not show what it is for")
-    values = {"answer": answer, "cells": cells, "sheet": list(calculator.sheet(case.file))}
+        sys.exit(f"try.py: {case.name} is answered {answer}: the case does not show what it is for")
+    values = {"answer": answer, **{part: given[part] for part in ("levels", "cells") if part in given}}
+    if case.call == "calculate":
+        values["sheet"] = list(calculator.sheet(given["file"]))
+    elif case.rule in (0, 12):
+        values["file"] = list(inputs.with_time(given["file"], given["times"][-1]))
     return [Fact(case, part, part, value) for part, value in values.items()]
 
 
+def kinds(fact):
+    """The kinds of number in a fact, each with the places where it stands. An answer is a word and a number, and where it
+    has no number the word is altered; of the file with another time, one of the time's bytes is."""
+    case, part, value = fact.case, fact.part, fact.value
+    if part == "answer":
+        return [{"refused": ("rule", [1]), "level": ("level", [1]), "times": ("acceptance", [0])}[value[0]]]
+    if part == "sheet":
+        return [("byte", range(len(value)))]
+    if part == "file":
+        return [("byte", range(9, 13))]
+    times = len(case.given["times"]) if case.call == "series" else 1
+    name, stays, size = {"levels": ("level", "level-that-stays", 1),
+                         "cells": ("moment", "cell-that-stays", inputs.need(case.given["file"]))}[part]
+    filled = 0 if case.rule else times * size
+    return [(name, range(filled)), (stays, range(filled, len(value)))]
+
+
 def altered(value, place):
-    """A number one off: the answer's, or the one at a place of a list."""
+    """A number one off: the answer's, or the one at a place of a list. An acceptance without a number becomes refusal 13."""
     if isinstance(value, tuple):
-        return (value[0], value[1] ^ 1)
+        return (value[0], value[1] ^ 1) if place else ("refused", 13)
     return value[:place] + [value[place] ^ 1] + value[place + 1:]
+
+
+def shown(value, place):
+    """The number at a place, or the answer's word, as the prover shows it."""
+    return written(value).split()[place] if isinstance(value, tuple) else value[place]
 
 
 def wrong_facts(rng, facts):
     """Each kind of number of a case's facts, altered: (the fact, the number that is right, the altered one)."""
-    answer, cells, sheet = facts
-    filled = 0 if answer.case.rule else answer.case.file[3] * answer.case.file[4]
-    places = [("rule" if answer.case.rule else "level", answer, 1),
-              ("cell-that-stays", cells, rng.randrange(filled, len(cells.value))),
-              ("byte", sheet, rng.randrange(len(sheet.value)))]
-    if filled:
-        places.append(("moment", cells, rng.randrange(filled)))
-    for label, fact, place in places:
-        wrong = fact._replace(label=label, value=altered(fact.value, place))
-        yield wrong, fact.value[place], wrong.value[place]
+    for fact in facts:
+        for label, places in kinds(fact):
+            if places:
+                place = rng.choice(places)
+                wrong = fact._replace(label=label, value=altered(fact.value, place))
+                yield wrong, shown(fact.value, place), shown(wrong.value, place)
 
 
 def unfoldable():
@@ -191,10 +286,12 @@ def theorems(facts):
     unfolded = " ".join(name for names in modules.values() for name in names)
     text = [HEAD] + [USE.format(module=module, names=", ".join(names)) for module, names in modules.items()]
     for case in {fact.case.name: fact.case for fact in facts}.values():
-        text.append(FILE.format(name=case.name, file=written(case.file), lent=written(case.lent)))
+        for what, value in case.given.items():
+            text.append(LENT.format(name=f"{case.name}-lent-{what}", value=written(value)))
     for fact in facts:
-        left = LEFT[fact.part].format(name=fact.case.name)
-        text.append(THEOREM.format(name=fact.case.name, label=fact.label, left=left, right=written(fact.value), unfolded=unfolded))
+        name = fact.case.name
+        left = LEFT[fact.case.call][fact.part].format(**{what: f"{name}-lent-{what}" for what in fact.case.given})
+        text.append(THEOREM.format(name=name, label=fact.label, left=left, right=written(fact.value), unfolded=unfolded))
     return "".join(text)
 
 
@@ -231,13 +328,18 @@ def errors(said):
     return found
 
 
+def counted(call, facts):
+    """The cases and the theorems of a call, in words."""
+    of_call = [fact for fact in facts if fact.case.call == call]
+    rules = list({fact.case.name: fact.case.rule for fact in of_call}.values())
+    return f"{call} {len(rules)} cases ({rules.count(0)} accepted, {len(rules) - rules.count(0)} refused), {len(of_call)} theorems"
+
+
 def try_right(folder, facts):
     """Whether all facts are proved, and a line to print."""
     status, said = check(folder, facts)
     if status == 0 and re.search(r"^logic=proved", said, re.M):
-        files = {fact.case.name: fact.case.rule for fact in facts}
-        stopped = sum(1 for rule in files.values() if rule)
-        return True, f"{len(files)} files agree with the reference ({len(files) - stopped} accepted, {stopped} refused): {len(facts)} theorems"
+        return True, "the definitions agree with the reference: " + "; ".join(counted(call, facts) for call in LEFT)
     names = [name for name, _ in errors(said)]
     return False, f"{said[:3000]}\ntry.py: not proved: {', '.join(names) or 'see above'}"
 
@@ -246,28 +348,29 @@ def try_wrong(folder, wrongs):
     """Whether every altered fact is refused, as a fact, and nothing else is; and a line to print."""
     status, said = check(folder, [fact for fact, _, _ in wrongs])
     messages = dict(errors(said))
-    numbers = {f"{fact.case.name}-{fact.label}": (fact.label, right, wrong) for fact, right, wrong in wrongs}
-    kinds, shown = Counter(label for label, _, _ in numbers.values()), set()
+    numbers = {f"{fact.case.name}-{fact.label}": ((fact.case.call, fact.label), right, wrong) for fact, right, wrong in wrongs}
+    counts, seen = Counter(kind for kind, _, _ in numbers.values()), set()
     trouble = [f"{name}: an altered number was not refused" for name in numbers if name not in messages]
     for name, message in messages.items():
         if name not in numbers or "the two types differ" not in message:
             trouble.append(f"{name}: refused for another reason: {message.splitlines()[0][:300]}")
             continue
-        label, right, wrong = numbers[name]
+        kind, right, wrong = numbers[name]
         computed = re.search(r"computed as far as they go.*?\(found\)", message, re.S)
         if computed and all(re.search(rf"\b{number}\b", computed.group()) for number in (right, wrong)):
-            shown.add(label)
+            seen.add(kind)
         elif computed:
             trouble.append(f"{name}: {wrong} for {right} is not what differs: {computed.group()[:300]}")
-    trouble += [f"{label}: the prover showed no two numbers of this kind" for label in kinds if label not in shown]
+    trouble += [f"{call} {label}: the prover showed no two numbers of this kind" for call, label in counts if (call, label) not in seen]
     if status != 1 or trouble:
         return False, "\n".join(trouble + [f"try.py: exit status {status}, {len(trouble)} faults"])
-    return True, f"{len(numbers)} altered numbers refused: " + ", ".join(f"{label} {count}" for label, count in sorted(kinds.items()))
+    words = {call: ", ".join(f"{label} {count}" for (of, label), count in sorted(counts.items()) if of == call) for call in LEFT}
+    return True, f"{len(numbers)} altered numbers refused: " + "; ".join(f"{call} {kinds}" for call, kinds in words.items())
 
 
 def main():
-    parser = models.Parser(description="State what the reference says of small files, and let the prover check it.")
-    parser.add_argument("--wrong", action="store_true", help="alter one number of each kind in a file; each must be refused")
+    parser = models.Parser(description="State what the reference says of small files, alone and with lists of times, and let the prover check it.")
+    parser.add_argument("--wrong", action="store_true", help="alter one number of each kind in a case; each must be refused")
     parser.add_argument("--seed", type=int, default=1)
     parser.add_argument("--keep", action="store_true", help="leave the scratch crate")
     options = parser.parse_args()
