@@ -622,6 +622,7 @@ mod moments {
     use super::{means, poisson, reader, refusals};
 
     const FEW_STATES: usize = 16;
+
     fn write_jumps(rate: u64, times: &[u32], xs: &mut [u64]) {
         let count = times.len();
         for k in 0..count {

@@ -171,6 +171,11 @@ pub lists-stopped : AllStopped stopped-lists
 unfolding sum largest anyAbove big jumpRate rowSum uniformRate framing quantities fallsUpTo listing jumps room seriesRows firstHeld seriesJudgement
 lists-stopped = (refl, (refl, (refl, (refl, (refl, (refl, (refl, (refl, (refl, (refl, (refl, tt)))))))))))
 
+-- a refused list changes no level and no cell
+pub stopped-untouched : (levelsAfter (refused 12) fileB (1 ∷ 257 ∷ []) (replicate 3 7) ≡ replicate 3 7) × (blocksAfter (refused 12) fileB (1 ∷ 257 ∷ []) (replicate 9 7) ≡ replicate 9 7)
+unfolding firsts over blocks levelsAfter blocksAfter
+stopped-untouched = (refl, refl)
+
 -- the file's own time is not judged at 12: B with 257 hours is accepted with the time 1, which calculate refuses
 pub own-time-unused : (seriesJudgement (set (set fileB 11 1) 12 1) (1 ∷ []) 1 4 ≡ accepted tt) × (judgement (set (set fileB 11 1) 12 1) 4 ≡ refused 12)
 unfolding sum largest anyAbove big jumpRate rowSum uniformRate framing quantities fallsUpTo listing jumps room rows seriesRows firstHeld judgement seriesJudgement

@@ -20,7 +20,7 @@ loop-again c =
     let turn = c .before .before .before .loop in
     let start = c .before .before .before .before .before .before in (
       omega arith,
-      over-store (turn .k) _ _ _ (c .jump-millionths .result) (omega (arith, start .pre .1)) (turn .inv .1) (c .jump-millionths .ensures),
+      over-store (turn .k) _ _ _ (c .jump-millionths .result) (omega (arith, start .pre .1)) (turn .inv .1) (omega (arith, c .jump-millionths .ensures)),
       simp length-set (turn .inv .2),
     )
 
