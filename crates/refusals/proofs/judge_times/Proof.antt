@@ -7,7 +7,7 @@ use native.Mathlib.Omega.{arith}
 use lib.Dec.{eqb, ltb}
 use lib.ListN.{length, drop}
 use borrow.Author.Needs.{needs}
-use Rattle.definitions.specs.Rules.{Answer, Rows, listing, lastTime, jumps, room, blockSize, judgedBy, verdict}
+use Rattle.definitions.specs.Rules.{Answer, refused, Rows, listing, lastTime, jumps, room, blockSize, judgedBy, verdict}
 use Rattle.laws.specs.RuleLaws.{row-stops, row-passes, andThen, in-parts}
 use Rattle.laws.specs.Acceptance.{in-range}
 use Rattle.refusals.specs.Run.{same-run, too-few, enough}
@@ -73,8 +73,9 @@ past-list c =
 returns : tie.Need-returns
 unfolding listing
 returns c =
-    let t = times (c .before .before .before .before) in
-    sym (row-stops 14 (wrongCount t) _ _ (sym (c .before .outside .ensures) ∙ c .if1 .taken))
+    let start = c .before .before .before .before in
+    let stopped : judgedBy (listing (times start) ++ run start ++ levels start) ≡ refused 14 = row-stops 14 (wrongCount (times start)) _ _ (sym (c .before .outside .ensures) ∙ c .if1 .taken) in
+    sym stopped
 
 returns-2 : tie.Need-returns-2
 unfolding listing
