@@ -1,7 +1,7 @@
 /* Moments of the accumulated reward of a repairable system, and their truncation level: document 01's
- * calculation, its last division rounded to the nearest tick (document 02, S-1), for C. `./build kuldrepso` makes
- * the library, libkuldrepso.a (x86-64), and prints its path; it needs nothing but memcpy and memset. Its contract is
- * proved: crates/kuldrepso/src/lib.rt. */
+ * calculation, its last division rounded to the nearest tick (document 02, S-1), at one time or at several (S-3), for
+ * C. `./build kuldrepso` makes the library, libkuldrepso.a (x86-64), and prints its path; it needs nothing but memcpy
+ * and memset. The contracts of its calls are proved: crates/kuldrepso/src/lib.rt. */
 #ifndef KULDREPSO_H
 #define KULDREPSO_H
 
@@ -21,7 +21,7 @@ extern "C" {
 /* An answer below this is an acceptance; any other is this and the number of a refusal. */
 #define KULDREPSO_REFUSED UINT64_C(1000000)
 
-/* Cells that are enough for every file: 64 states, 8 moments each. */
+/* Cells that are enough for every file at one time: 64 states, 8 moments each. A list of times takes as many for each. */
 #define KULDREPSO_MOST_CELLS 512
 
 /* Times that a list may have: 1 to this many. */

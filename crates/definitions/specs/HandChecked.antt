@@ -134,8 +134,8 @@ pub series-of-B :
 unfolding sum largest anyAbove firsts over blocks big jumpRate rowSum uniformRate c maxReward jumpMillionths framing quantities fallsUpTo listing jumps room seriesRows firstHeld seriesJudgement rowMean rewardShare mix nextEntry firstVectors nextVectors U mode rightward leftward weight weightSum tailBound allowance passes? firstFrom level term weighted nearest lastQuotient weightedMean moment cell modelLevel levelAt levelsAfter blocksAfter
 series-of-B = (refl, refl, refl)
 
--- B with the time 66,051, its bytes 00 01 02 03
-pub time-in-B : withTime fileB 66051 ≡ set (set (set fileB 10 1) 11 2) 12 3
+-- B with the time 4,294,901,244, its bytes FF FE FD FC
+pub time-in-B : withTime fileB 0xFFFEFDFC ≡ set (set (set (set fileB 9 0xFF) 10 0xFE) 11 0xFD) 12 0xFC
 unfolding bytesOf withTime
 time-in-B = refl
 
@@ -151,25 +151,33 @@ abbrev pub AllStopped : List Stopped → Type 0
 AllStopped [] = Unit {0}
 AllStopped (e ∷ rest) = (seriesJudgement (e .file) (e .times) (e .levels) (e .cells) ≡ refused (e .row)) × AllStopped rest
 
--- row by row, each of the first files broken in a later row too
+-- row by row; most break a later row too
 abbrev pub stopped-lists : List Stopped
 stopped-lists =
     record { file = set fileB 8 1; times = 0 ∷ []; levels = 0; cells = 0; row = 7 }
     ∷ record { file = set fileB 12 0; times = 1 ∷ 2 ∷ []; levels = 2; cells = 8; row = 8 }
     ∷ record { file = fileB; times = 0 ∷ replicate 8 1; levels = 0; cells = 0; row = 8 }
     ∷ record { file = set fileB 16 0; times = []; levels = 0; cells = 0; row = 10 }
+    ∷ record { file = set (set (set fileB 22 0x98) 23 0x96) 24 0x81; times = replicate 9 1; levels = 0; cells = 0; row = 11 }
     ∷ record { file = fileB; times = []; levels = 0; cells = 0; row = 14 }
     ∷ record { file = fileB; times = 9 ∷ 8 ∷ 7 ∷ 6 ∷ 5 ∷ 4 ∷ 3 ∷ 2 ∷ 257 ∷ []; levels = 0; cells = 0; row = 14 }
     ∷ record { file = fileB; times = 257 ∷ 257 ∷ []; levels = 0; cells = 0; row = 15 }
     ∷ record { file = fileB; times = 1 ∷ 3 ∷ 2 ∷ []; levels = 3; cells = 12; row = 15 }
+    ∷ record { file = fileB; times = 3 ∷ 2 ∷ 5 ∷ []; levels = 3; cells = 12; row = 15 }
     ∷ record { file = fileB; times = 1 ∷ 257 ∷ []; levels = 0; cells = 0; row = 12 }
+    ∷ record { file = fileB; times = 1 ∷ 2 ∷ 257 ∷ []; levels = 3; cells = 12; row = 12 }
     ∷ record { file = fileB; times = 1 ∷ 256 ∷ []; levels = 2; cells = 7; row = 13 }
     ∷ record { file = fileB; times = 1 ∷ 256 ∷ []; levels = 1; cells = 8; row = 13 }
     ∷ []
 
 pub lists-stopped : AllStopped stopped-lists
 unfolding sum largest anyAbove big jumpRate rowSum uniformRate framing quantities fallsUpTo listing jumps room seriesRows firstHeld seriesJudgement
-lists-stopped = (refl, (refl, (refl, (refl, (refl, (refl, (refl, (refl, (refl, (refl, (refl, tt)))))))))))
+lists-stopped = (refl, (refl, (refl, (refl, (refl, (refl, (refl, (refl, (refl, (refl, (refl, (refl, (refl, (refl, tt))))))))))))))
+
+-- eight times up to the latest are accepted, with just as many levels and cells
+pub eight-times : seriesJudgement fileB (1 ∷ 2 ∷ 3 ∷ 4 ∷ 5 ∷ 6 ∷ 7 ∷ 256 ∷ []) 8 32 ≡ accepted tt
+unfolding sum largest anyAbove big jumpRate rowSum uniformRate framing quantities fallsUpTo listing jumps room seriesRows firstHeld seriesJudgement
+eight-times = refl
 
 -- a refused list changes no level and no cell
 pub stopped-untouched : (levelsAfter (refused 12) fileB (1 ∷ 257 ∷ []) (replicate 3 7) ≡ replicate 3 7) × (blocksAfter (refused 12) fileB (1 ∷ 257 ∷ []) (replicate 9 7) ≡ replicate 9 7)

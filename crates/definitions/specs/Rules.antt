@@ -7,8 +7,8 @@ use lib.Dec.{ltb, leb, eqb}
 use Rattle.definitions.specs.declared.Judgement.{Judgement}
 use Rattle.definitions.specs.declared.Judgement.the-variants as judged
 use Rattle.definitions.specs.Sums.{anyAbove, pick}
-use Rattle.definitions.specs.File.{lengthField, version, stateCount, highestMoment, toleranceField, timeField, rewardField}
-use Rattle.definitions.specs.Chain.{modelOf, rowSum, uniformRate}
+use Rattle.definitions.specs.File.{lengthField, version, stateCount, highestMoment, timeField}
+use Rattle.definitions.specs.Chain.{Model, modelOf, rowSum, uniformRate}
 
 -- the answer of a call: accepted, with what the call then returns, or refused, with the number of a row. No refusal is an acceptance, whatever its number.
 pub data Answer (A : Type 0) : Type 0 where
@@ -35,14 +35,14 @@ abbrev pub startsAtZero : List ℕ → Bool
 startsAtZero [] = false
 startsAtZero (first ∷ later) = eqb first 0
 
--- rows 7 to 11, the quantities: tolerance, time, rewards and rates, of the file s lent with a list of times (without one: an empty list)
-unfoldable pub quantities : List ℕ → List ℕ → Rows
-quantities s times =
-    (7, eqb (toleranceField s) 0 || ltb 100000000 (toleranceField s))
-    ∷ (8, eqb (timeField s) 0 || startsAtZero times)
-    ∷ (9, anyAbove 1000000 (stateCount s) (rewardField s))
-    ∷ (10, not (anyAbove 0 (stateCount s) (rewardField s)))
-    ∷ (11, anyAbove 10000000 (stateCount s) (rowSum (modelOf s)))
+-- rows 7 to 11, the quantities: tolerance, time, rewards and rates of a model, lent with a list of times (without one: an empty list)
+unfoldable pub quantities : Model → List ℕ → Rows
+quantities m times =
+    (7, eqb (m .tolerance) 0 || ltb 100000000 (m .tolerance))
+    ∷ (8, eqb (m .time) 0 || startsAtZero times)
+    ∷ (9, anyAbove 1000000 (m .states) (m .reward))
+    ∷ (10, not (anyAbove 0 (m .states) (m .reward)))
+    ∷ (11, anyAbove 10000000 (m .states) (rowSum m))
     ∷ []
 
 -- whether one of the times 1 to n, counted from 0, is not above the one before it
@@ -80,7 +80,7 @@ blockSize s = stateCount s * highestMoment s
 unfoldable pub rows : List ℕ → ℕ → Rows
 rows s cells =
     framing s
-    ++ quantities s []
+    ++ quantities (modelOf s) []
     ++ jumps (uniformRate (modelOf s)) (timeField s)
     ++ room (blockSize s) cells
 
@@ -89,7 +89,7 @@ rows s cells =
 unfoldable pub seriesRows : List ℕ → List ℕ → ℕ → ℕ → Rows
 seriesRows s times levels cells =
     framing s
-    ++ quantities s times
+    ++ quantities (modelOf s) times
     ++ listing times
     ++ jumps (uniformRate (modelOf s)) (lastTime times)
     ++ room (length times * blockSize s) cells

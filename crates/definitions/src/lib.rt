@@ -1,4 +1,4 @@
-// The answers and the sizes that the calculator's functions share. Document 01's answer for each case of an enum is defined in specs/:
+// The answers and the sizes that the calculator's functions share. The paper's answer for each case of an enum is defined in specs/:
 // of a Judgement in Rules.antt, of an Outcome in Moment.antt, of a Series in Series.antt. The chain that stands in arrays of given Sizes is defined in Chain.antt.
 
 // ONE: 10^12 ticks.

@@ -1,3 +1,3 @@
--- What the exported call's contract cites, and its laws.
+-- What the exported calls' contracts cite, and their laws.
 pub mod Plain
 pub mod PlainLaws

@@ -91,7 +91,7 @@ unfolding framing
 moments-by s row = in-range (highestMoment s) 8 (row .1 .1 .1 .1 .0)
 
 -- the rows 7 to 12, with a time T that is not 0 and not too late
-pub limits-by : (s times : List ℕ) (T : ℕ) → NoneHold (framing s) → NoneHold (quantities s times) → 1 ≤ T → uniformRate (modelOf s) * T ≤ 256000000 → WithinLimits (atTime (modelOf s) T)
+pub limits-by : (s times : List ℕ) (T : ℕ) → NoneHold (framing s) → NoneHold (quantities (modelOf s) times) → 1 ≤ T → uniformRate (modelOf s) * T ≤ 256000000 → WithinLimits (atTime (modelOf s) T)
 unfolding quantities maxReward jumpMillionths
 limits-by s times T first row low high =
     let f = framed-by s first in
@@ -114,7 +114,7 @@ limits-by s times T first row low high =
     }
 
 -- row 8: the file's time is not 0, and neither is the first of a list
-pub times-by : (s times : List ℕ) → NoneHold (quantities s times) → (1 ≤ timeField s) × (startsAtZero times ≡ false)
+pub times-by : (s times : List ℕ) → NoneHold (quantities (modelOf s) times) → (1 ≤ timeField s) × (startsAtZero times ≡ false)
 unfolding quantities
 times-by s times row =
     let both = neither (eqb (timeField s) 0) (startsAtZero times) (row .1 .0) in
@@ -128,11 +128,11 @@ pub record Rateable (s : List ℕ) (E : ℕ) : Type 0 where
   pub rate : E ≡ uniformRate (modelOf s)
   pub rate-max : E ≤ 10000000
 
-pub rateable : (s times : List ℕ) (E : ℕ) → firstHeld (framing s ++ quantities s times) (uniformRate (modelOf s)) ≡ accepted E → Rateable s E
+pub rateable : (s times : List ℕ) (E : ℕ) → firstHeld (framing s ++ quantities (modelOf s) times) (uniformRate (modelOf s)) ≡ accepted E → Rateable s E
 unfolding quantities uniformRate
 rateable s times E h =
-    let none = none-in-parts (framing s) (quantities s times) (none-hold (framing s ++ quantities s times) (uniformRate (modelOf s)) E h) in
-    let rate : uniformRate (modelOf s) ≡ E = accepted-value (framing s ++ quantities s times) (uniformRate (modelOf s)) E h in
+    let none = none-in-parts (framing s) (quantities (modelOf s) times) (none-hold (framing s ++ quantities (modelOf s) times) (uniformRate (modelOf s)) E h) in
+    let rate : uniformRate (modelOf s) ≡ E = accepted-value (framing s ++ quantities (modelOf s) times) (uniformRate (modelOf s)) E h in
     record {
       framed = framed-by s (none .0);
       highest-max = moments-by s (none .0) .1;
@@ -141,18 +141,18 @@ rateable s times E h =
     }
 
 -- the whole table: those rows, then the jumps and the room
-pub judgement-in-parts : (s : List ℕ) (cells : ℕ) → judgement s cells ≡ andThen (firstHeld (framing s ++ quantities s []) (uniformRate (modelOf s))) (judgedBy (jumps (uniformRate (modelOf s)) (timeField s) ++ room (blockSize s) cells))
+pub judgement-in-parts : (s : List ℕ) (cells : ℕ) → judgement s cells ≡ andThen (firstHeld (framing s ++ quantities (modelOf s) []) (uniformRate (modelOf s))) (judgedBy (jumps (uniformRate (modelOf s)) (timeField s) ++ room (blockSize s) cells))
 unfolding judgement rows
-judgement-in-parts s cells = rw append-assoc (in-parts (framing s ++ quantities s []) _ (uniformRate (modelOf s)) tt)
+judgement-in-parts s cells = rw append-assoc (in-parts (framing s ++ quantities (modelOf s) []) _ (uniformRate (modelOf s)) tt)
 
 -- the table of a series: those rows, then the list, the jumps and the room
 pub series-in-parts : (s times : List ℕ) (levels cells : ℕ) →
     seriesJudgement s times levels cells
-    ≡ andThen (firstHeld (framing s ++ quantities s times) (uniformRate (modelOf s)))
+    ≡ andThen (firstHeld (framing s ++ quantities (modelOf s) times) (uniformRate (modelOf s)))
     (judgedBy (listing times ++ (jumps (uniformRate (modelOf s)) (lastTime times) ++ room (length times * blockSize s) cells) ++ room (length times) levels))
 unfolding seriesJudgement seriesRows
 series-in-parts s times levels cells =
-    let first : Rows = framing s ++ quantities s times in
+    let first : Rows = framing s ++ quantities (modelOf s) times in
     let run : Rows = jumps (uniformRate (modelOf s)) (lastTime times) ++ room (length times * blockSize s) cells in
     ap (λ (t : Rows). judgedBy t) (ap (λ (t : Rows). t ++ room (length times) levels) (append-assoc (first ++ listing times) (jumps (uniformRate (modelOf s)) (lastTime times)) (room (length times * blockSize s) cells) ∙ append-assoc first (listing times) run) ∙ append-assoc first (listing times ++ run) (room (length times) levels))
     ∙ in-parts first _ (uniformRate (modelOf s)) tt
@@ -163,9 +163,9 @@ unfolding judgement rows jumps room
 accepted-file s cells passed =
     let X : Rows = jumps (uniformRate (modelOf s)) (timeField s) in
     let C : Rows = room (blockSize s) cells in
-    let last = none-in-parts (framing s ++ quantities s [] ++ X) C (none-hold (rows s cells) (tt {0}) tt passed) in
-    let to12 = none-in-parts (framing s ++ quantities s []) X (last .0) in
-    let to11 = none-in-parts (framing s) (quantities s []) (to12 .0) in
+    let last = none-in-parts (framing s ++ quantities (modelOf s) [] ++ X) C (none-hold (rows s cells) (tt {0}) tt passed) in
+    let to12 = none-in-parts (framing s ++ quantities (modelOf s) []) X (last .0) in
+    let to11 = none-in-parts (framing s) (quantities (modelOf s) []) (to12 .0) in
     record {
       framed = framed-by s (to11 .0);
       limits = limits-by s [] (timeField s) (to11 .0) (to11 .1) (times-by s [] (to11 .1) .0) (ltb-false 256000000 (uniformRate (modelOf s) * timeField s) (to12 .1 .0));
@@ -211,7 +211,7 @@ pub record AcceptedSeries (s times : List ℕ) (levels cells : ℕ) : Type 0 whe
 -- no row of the series' table holds, part by part
 pub record SeriesRows (s times : List ℕ) (levels cells : ℕ) : Type 0 where
   pub frame : NoneHold (framing s)
-  pub amounts : NoneHold (quantities s times)
+  pub amounts : NoneHold (quantities (modelOf s) times)
   pub list : NoneHold (listing times)
   pub last : NoneHold (jumps (uniformRate (modelOf s)) (lastTime times))
   pub for-blocks : NoneHold (room (length times * blockSize s) cells)
@@ -224,7 +224,7 @@ series-rows s times levels cells passed =
     let C : Rows = room (length times * blockSize s) cells in
     let N : Rows = room (length times) levels in
     let L : Rows = listing times in
-    let Q : Rows = quantities s times in
+    let Q : Rows = quantities (modelOf s) times in
     let to13 = none-in-parts (framing s ++ Q ++ L ++ X ++ C) N (none-hold (seriesRows s times levels cells) (tt {0}) tt passed) in
     let to12 = none-in-parts (framing s ++ Q ++ L ++ X) C (to13 .0) in
     let to15 = none-in-parts (framing s ++ Q ++ L) X (to12 .0) in

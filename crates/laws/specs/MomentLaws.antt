@@ -46,12 +46,15 @@ getD-moment m N i r cells l low high =
     getD-over 0 (m .states * m .highest) (cell m N) cells (cellOf m i r) (unfold cellOf in place-below i (r - 1) (m .states) (m .highest) l (omega arith))
     ∙ cell-holds m N i r low high
 
+-- a term is at most its weight
+pub term-max : (w u : ℕ) → u ≤ ONE → term w u ≤ w
+unfolding term
+term-max w u h = quotient-at-most (w * u) w ONE (mul-le-mul-left w h)
+
 -- A is at most S where no u is above ONE
 pub weighted-max : (X N : ℕ) (u : ℕ → ℕ) → ((n : ℕ) → n ≤ N → u n ≤ ONE) → weighted X u N ≤ weightSum X N
-unfolding weighted weightSum term
-weighted-max X N u h =
-    sum-mono (suc N) (λ n. weight X n * u n / ONE) (weight X)
-    (λ n l. quotient-at-most (weight X n * u n) (weight X n) ONE (mul-le-mul-left (weight X n) (h n (omega arith))))
+unfolding weighted weightSum
+weighted-max X N u h = sum-mono (suc N) (λ n. term (weight X n) (u n)) (weight X) (λ n l. term-max (weight X n) (u n) (h n (omega arith)))
 
 -- the last quotient is at most ONE where A is at most S
 pub last-max : (A S : ℕ) → 0 < S → A ≤ S → lastQuotient A S ≤ ONE

@@ -3,17 +3,15 @@ use Prim.Native.Nat.{ℕ, zero, suc, _+_, _*_, _/_, _%_, _≤_, _<_, _^_}
 use native.Mathlib.Omega.{arith}
 use native.Mathlib.Nat.{le-refl, mul-le-mul-right}
 use mathlib.Core.Path.{_≡_, refl, sym, _∙_, ap, ap₂, subst}
-use mathlib.Core.Bool.{false, not, _||_}
 use mathlib.Core.List.{List, [], _∷_, _++_}
-use lib.Dec.{ltb, eqb}
 use lib.ListN.{length, getD, drop, set, length-set, length-drop}
 use lib.Seq.{sets, getD-set-same, getD-set-other, length-sets, length-take-le}
 use borrow.Author.Tests.{le-ltb, ne-eqb}
-use Rattle.definitions.specs.Sums.{anyAbove, over}
+use Rattle.definitions.specs.Sums.{over}
 use Rattle.definitions.specs.Bytes.{big, bytesOf}
 use Rattle.definitions.specs.File.{stateCount, highestMoment, timeField, rateField, withTime}
 use Rattle.definitions.specs.Chain.{Model, modelOf, atTime, jumpRate, rowSum, uniformRate}
-use Rattle.definitions.specs.Rules.{accepted, Rows, framing, quantities, jumps, room, blockSize, rows, judgement, seriesJudgement}
+use Rattle.definitions.specs.Rules.{accepted, framing, quantities, jumps, room, blockSize, rows, judgement, seriesJudgement}
 use Rattle.definitions.specs.Moment.{cell, modelLevel, cellsAfter}
 use Rattle.definitions.specs.Promise.{Promise}
 use Rattle.definitions.specs.Series.{modelAt, levelAt, levelsAfter, blocksAfter, block, IsRun, AreRuns, SeriesPromised}
@@ -114,24 +112,10 @@ module _ (s : List ℕ) (T : ℕ) (header : 13 ≤ length s) where
   framing-with =
       rw (length-with, states-with, highest-with, number-before 2 0 (omega arith), byte-before 2 (omega arith)) refl
 
--- rows 7 to 11 without a list, of the model alone
-modelRows : Model → Rows
-modelRows m =
-    (7, eqb (m .tolerance) 0 || ltb 100000000 (m .tolerance))
-    ∷ (8, eqb (m .time) 0 || false)
-    ∷ (9, anyAbove 1000000 (m .states) (m .reward))
-    ∷ (10, not (anyAbove 0 (m .states) (m .reward)))
-    ∷ (11, anyAbove 10000000 (m .states) (rowSum m))
-    ∷ []
-
-quantities-model : (s : List ℕ) → quantities s [] ≡ modelRows (modelOf s)
-unfolding quantities modelRows
-quantities-model s = refl
-
--- they pass with any time but 0, where they pass with the file's
-quantities-at : (s times : List ℕ) (T : ℕ) → NoneHold (quantities s times) → 1 ≤ T → NoneHold (modelRows (atTime (modelOf s) T))
-unfolding quantities modelRows jumpRate rowSum
-quantities-at s times T row low = (row .0, (rw (ne-eqb T 0 (λ e. omega arith)) refl, row .1 .1))
+-- rows 7 to 11 pass without a list, with any time but 0, where they pass with the file's time and a list
+quantities-at : (m : Model) (times : List ℕ) (T : ℕ) → NoneHold (quantities m times) → 1 ≤ T → NoneHold (quantities (atTime m T) [])
+unfolding quantities jumpRate rowSum
+quantities-at m times T row low = (row .0, (rw (ne-eqb T 0 (λ e. omega arith)) refl, row .1 .1))
 
 module _ (s times : List ℕ) (levels cells : ℕ) (none : SeriesRows s times levels cells) (f : AcceptedSeries s times levels cells) (k : ℕ) (h : k < length times) where
   abbrev T : ℕ
@@ -161,9 +145,9 @@ module _ (s times : List ℕ) (levels cells : ℕ) (none : SeriesRows s times le
   unfolding judgement rows jumps room
   run-accepted =
       all-pass (rows run (blockSize s)) tt
-      (none-together (framing run ++ quantities run [] ++ jumps (uniformRate (modelOf run)) (timeField run)) (room (blockSize run) (blockSize s))
-      (none-together (framing run ++ quantities run []) (jumps (uniformRate (modelOf run)) (timeField run))
-      (none-together (framing run) (quantities run []) (rw (framing-with s T header) (none .frame)) (rw (quantities-model run, model-run) (quantities-at s times T (none .amounts) (within .0))))
+      (none-together (framing run ++ quantities (modelOf run) [] ++ jumps (uniformRate (modelOf run)) (timeField run)) (room (blockSize run) (blockSize s))
+      (none-together (framing run ++ quantities (modelOf run) []) (jumps (uniformRate (modelOf run)) (timeField run))
+      (none-together (framing run) (quantities (modelOf run) []) (rw (framing-with s T header) (none .frame)) (subst (λ (m : Model). NoneHold (quantities m [])) (sym model-run) (quantities-at (modelOf s) times T (none .amounts) (within .0))))
       (le-ltb 256000000 (uniformRate (modelOf run) * timeField run) few, tt))
       (le-ltb (blockSize s) (blockSize run) (rw (states-with s T header, highest-with s T header) (le-refl (blockSize s))), tt))
 

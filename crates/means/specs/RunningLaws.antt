@@ -2,7 +2,7 @@
 use mathlib.Core.List.{List, []}
 use mathlib.Core.Path.{_≡_, refl, sym, _∙_, ap, ap₂}
 use Prim.Native.Nat.{ℕ, _+_, _-_, _*_, _/_, _%_, _≤_, _<_, min}
-use native.Mathlib.Nat.{mul-le-mul-left, le-trans}
+use native.Mathlib.Nat.{le-trans}
 use native.Mathlib.Numerals.{add-one}
 use native.Mathlib.Decide.{decLe}
 use native.Mathlib.Omega.{arith}
@@ -14,20 +14,15 @@ use Rattle.definitions.specs.Chain.{Chain, arrays}
 use Rattle.definitions.specs.Vectors.{ONE, U}
 use Rattle.definitions.specs.Weights.{GREATEST}
 use Rattle.definitions.specs.Moment.{term}
-use Rattle.laws.specs.Rounding.{quotient-at-most, row-of-place}
+use Rattle.laws.specs.Rounding.{row-of-place}
 use Rattle.laws.specs.SumLaws.{sum-zero, sum-suc, sum-mono, sum-constant}
 use Rattle.laws.specs.ListLaws.{over-kept, over-same}
 use Rattle.laws.specs.BlockLaws.{length-blocks, getD-blocks, getD-next, blocks-same, blocks-again}
 use Rattle.laws.specs.VectorLaws.{Stochastic, U-bound}
-use Rattle.laws.specs.MomentLaws.{row-of-cell, state-of-cell, moment-of-cell}
+use Rattle.laws.specs.MomentLaws.{row-of-cell, state-of-cell, moment-of-cell, term-max}
 use Rattle.vectors.specs.Table.{tableOf}
 use Rattle.vectors.specs.TableLaws.{table-entry}
 use Rattle.means.specs.Running.{inTable, rowFrom, termAt, partSum, partSums, Addable, AllAddable, Summable}
-
--- a term is at most its weight
-pub term-max : (w u : ℕ) → u ≤ ONE → term w u ≤ w
-unfolding term
-term-max w u h = quotient-at-most (w * u) w ONE (mul-le-mul-left w h)
 
 -- the cell of state i and moment r has the table's entry i of row r
 pub cell-in-table : (table : List (List ℕ)) (i r R k : ℕ) → k ≡ i * R + (r - 1) → 1 ≤ r → r ≤ R → inTable table R k ≡ getD (getD table r []) i 0

@@ -86,7 +86,7 @@ fn starts_at_zero(times: &[u32]) -> bool
 // Rows 7 to 11: the quantities. Some row sum is above its limit just where E is.
 fn judge_quantities(file: &[u8], times: &[u32]) -> Rated
     requires { ⌜ Framed (now file) ⌝ }
-    ensures { λ r. ⌜ ratedAs r ≡ firstHeld (quantities (now (file .entry)) (now (times .entry))) (uniformRate (modelOf (now (file .entry)))) ⌝ }
+    ensures { λ r. ⌜ ratedAs r ≡ firstHeld (quantities (modelOf (now (file .entry))) (now (times .entry))) (uniformRate (modelOf (now (file .entry)))) ⌝ }
 {
     if outside(reader::tolerance(file), MOST_TOLERANCE) {
         return Rated::Refused(7);
@@ -114,7 +114,7 @@ fn judge_quantities(file: &[u8], times: &[u32]) -> Rated
 
 // Rows 1 to 11, of a file lent with a list of times. A call without one lends an empty list.
 pub fn judge_model(file: &[u8], times: &[u32]) -> Rated
-    ensures { λ r. ⌜ ratedAs r ≡ firstHeld (framing (now (file .entry)) ++ quantities (now (file .entry)) (now (times .entry))) (uniformRate (modelOf (now (file .entry)))) ⌝ }
+    ensures { λ r. ⌜ ratedAs r ≡ firstHeld (framing (now (file .entry)) ++ quantities (modelOf (now (file .entry))) (now (times .entry))) (uniformRate (modelOf (now (file .entry)))) ⌝ }
 {
     let framing = judge_framing(file);
     match framing {

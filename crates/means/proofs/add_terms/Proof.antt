@@ -10,9 +10,9 @@ use Rattle.definitions.specs.Vectors.{ONE}
 use Rattle.definitions.specs.Moment.{term}
 use Rattle.laws.specs.Rounding.{row-of-place}
 use Rattle.laws.specs.ListLaws.{over-none, over-store, getD-over-past}
-use Rattle.laws.specs.MomentLaws.{state-of-cell, count-max}
+use Rattle.laws.specs.MomentLaws.{state-of-cell, count-max, term-max}
 use Rattle.means.specs.Running.{inTable}
-use Rattle.means.specs.RunningLaws.{term-max, cell-in-table}
+use Rattle.means.specs.RunningLaws.{cell-in-table}
 use Rattle.means.proofs.add_terms.Statement.{statement}
 use Rattle.means.proofs.add_terms.Tie as tie
 

@@ -18,7 +18,7 @@ returns c =
     let start = c .before .before .before .before .before .before in
     let s = start .args .file .now in
     let stopped = sym (c .before .before .before .judge-framing .ensures) ∙ ap verdict (c .before .framing .given .1) in
-    sym (in-parts (framing s) (quantities s (start .args .times .now)) (tt {0}) (uniformRate (modelOf s)) ∙ rw stopped refl)
+    sym (in-parts (framing s) (quantities (modelOf s) (start .args .times .now)) (tt {0}) (uniformRate (modelOf s)) ∙ rw stopped refl)
 
 returns-2 : tie.Need-returns-2
 returns-2 c =
@@ -26,7 +26,7 @@ returns-2 c =
     let s = start .args .file .now in
     let passed = sym (c .before .before .before .judge-framing .ensures) ∙ ap verdict (c .before .enum-told .given .1) in
     c .judge-quantities .ensures
-    ∙ sym (in-parts (framing s) (quantities s (start .args .times .now)) (tt {0}) (uniformRate (modelOf s)) ∙ rw passed refl)
+    ∙ sym (in-parts (framing s) (quantities (modelOf s) (start .args .times .now)) (tt {0}) (uniformRate (modelOf s)) ∙ rw passed refl)
 
 pub judge-model-spec : {M : Type 1} → statement M
 judge-model-spec =

@@ -25,8 +25,8 @@ times start = start .args .times .now
 -- the rows past the first k answer
 abbrev Left : tie.Start → ℕ → Type 0
 Left start k =
-    firstHeld (quantities (file start) (times start)) (uniformRate (modelOf (file start)))
-    ≡ firstHeld (drop k (quantities (file start) (times start))) (uniformRate (modelOf (file start)))
+    firstHeld (quantities (modelOf (file start)) (times start)) (uniformRate (modelOf (file start)))
+    ≡ firstHeld (drop k (quantities (modelOf (file start)) (times start))) (uniformRate (modelOf (file start)))
 
 -- from the place past a row's test back to the start; row 8 has two
 abbrev start7 : tie.Else1 → tie.Start
