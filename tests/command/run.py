@@ -177,8 +177,8 @@ def rebuilt(copy):
     expect("its first line", lines[0],
            "build: proving the crates and making calculator, a minute or two where nothing is proved yet")
     counts = [re.sub(r": \w+$", "", line) for line in lines[1:-1]]
-    expect("its lines, one for each crate", counts, [f"build: {k} of 11" for k in range(1, 12)])
-    expect("its last crate", lines[-2], "build: 11 of 11: calculator")
+    expect("its lines, one for each crate", counts, [f"build: {k} of 12" for k in range(1, 13)])
+    expect("its last crate", lines[-2], "build: 12 of 12: calculator")
     expect("the edited program again", run("./calculate < /", copy), (2, b"", "calculator: the input is unreadable\n"))
 
 
