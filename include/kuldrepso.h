@@ -1,6 +1,6 @@
 /* Moments of the accumulated reward of a repairable system, and their truncation level: document 01's
- * calculation, its last division rounded to the nearest tick (document 02, S-1), at one time or at several (S-3), for
- * C. `./build kuldrepso` makes the library, libkuldrepso.a (x86-64), and prints its path; it needs nothing but memcpy
+ * calculation, its last division rounded to the nearest tick (document 02, S-1), at one time or at several (S-3), and
+ * what its divisions leave over (S-4), for C. `./build kuldrepso` makes the library, libkuldrepso.a (x86-64), and prints its path; it needs nothing but memcpy
  * and memset. The contracts of its calls are proved: crates/kuldrepso/src/lib.rt. */
 #ifndef KULDREPSO_H
 #define KULDREPSO_H
@@ -16,7 +16,7 @@ extern "C" {
  * that was written before stays right. MAJOR rises, and MINOR starts again at 0, where such a program has to be looked
  * through: a call takes other parameters or answers something else, or a macro has another value. */
 #define KULDREPSO_VERSION_MAJOR 2
-#define KULDREPSO_VERSION_MINOR 1
+#define KULDREPSO_VERSION_MINOR 2
 
 /* An answer below this is an acceptance; any other is this and the number of a refusal. */
 #define KULDREPSO_REFUSED UINT64_C(1000000)
@@ -69,6 +69,30 @@ uint64_t kuldrepso_calculate(const uint8_t *file, size_t file_length, uint64_t *
  * call returns, its levels and cells may hold other numbers. It takes less than 128 KB of stack. */
 uint64_t kuldrepso_series(const uint8_t *file, size_t file_length, const uint32_t *times, size_t time_count,
                           uint64_t *levels, size_t level_count, uint64_t *cells, size_t cell_count);
+
+/* What kuldrepso_remainders answers of a file without a refusal. */
+#define KULDREPSO_GIVEN 0
+#define KULDREPSO_NONE 1
+
+/* What the three divisions of U(n,r) at one state leave over (document 02, S-4), for a worked solution. States are counted
+ * from 1; i is the state.
+ *
+ * Answers
+ *   KULDREPSO_GIVEN         where no row from 1 to 12 of document 01's table holds, and state is from 1 to M, n from 1 to N,
+ *                           the file's level, and r from 1 to R. Then
+ *                             *mean   holds the remainder of V, that of the sum over j of c(i,j) * U(n-1,r) at j by E;
+ *                             *share  holds the remainder of W, that of f(i) * U(n,r-1) at i by F;
+ *                             *mix    holds the remainder of U, that of n * V + r * W by n + r.
+ *                           Each is below its divisor.
+ *   KULDREPSO_NONE          where no such row holds, and state, n or r is outside. The three numbers are as they were.
+ *   KULDREPSO_REFUSED + k   where row k, from 1 to 12, is the first that holds, whatever state, n and r are. The three
+ *                           numbers are as they were.
+ *
+ * Any state, n and r get an answer, UINT64_MAX too. A caller owes what is owed to kuldrepso_calculate, here for one slice
+ * and three numbers: no pointer may be null, and none of the numbers may overlap another or the file. It takes less than
+ * 128 KB of stack. */
+uint64_t kuldrepso_remainders(const uint8_t *file, size_t file_length, uint64_t state, uint64_t n, uint64_t r,
+                              uint64_t *mean, uint64_t *share, uint64_t *mix);
 
 #ifdef __cplusplus
 }
