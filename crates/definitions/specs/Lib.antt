@@ -1,6 +1,7 @@
--- Document 01, with requests S-1 (the last rounding) and S-3 (several times) of document 02, as definitions: a module for each of its sections, in its order.
+-- Document 01, with requests S-1 (the last rounding), S-3 (several times) and S-4 (remainders) of document 02, as definitions: a module for each of its sections, in its order.
 -- The paper counts states from 1. Here states and cells are counted from 0: the paper's state i is i − 1 here. Moments r are counted from 1 in both.
 pub mod Sums
+pub mod Division
 pub mod Bytes
 pub mod File
 pub mod Chain
@@ -13,5 +14,6 @@ pub mod Fraction
 pub mod Average
 pub mod Promise
 pub mod Series
+pub mod Remainders
 pub mod Sheet
 pub mod HandChecked

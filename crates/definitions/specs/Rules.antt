@@ -76,13 +76,13 @@ room needed lent = (13, ltb lent needed) ∷ []
 abbrev pub blockSize : List ℕ → ℕ
 blockSize s = stateCount s * highestMoment s
 
+-- rows 1 to 12, the table of a call that takes the file s and needs no room for its answer
+abbrev pub fileRows : List ℕ → Rows
+fileRows s = framing s ++ quantities (modelOf s) [] ++ jumps (uniformRate (modelOf s)) (timeField s)
+
 -- the table of a call that takes the file s, lent with a number of answer cells, and fills its moments
 unfoldable pub rows : List ℕ → ℕ → Rows
-rows s cells =
-    framing s
-    ++ quantities (modelOf s) []
-    ++ jumps (uniformRate (modelOf s)) (timeField s)
-    ++ room (blockSize s) cells
+rows s cells = fileRows s ++ room (blockSize s) cells
 
 -- the table of a call that takes the file s and a list of times, lent with a number of level cells and of block cells, and fills a level
 -- and a block of moments for each time (S-3). Row 13 stands for the blocks, and for the levels.
@@ -103,6 +103,10 @@ firstHeld (row ∷ later) a = pick (row .1) (refused (row .0)) (firstHeld later 
 -- what a table says: accepted, or the first row that holds
 abbrev pub judgedBy : Rows → Answer (Unit {0})
 judgedBy table = firstHeld table tt
+
+-- what rows 1 to 12 say of the file s
+unfoldable pub fileJudgement : List ℕ → Answer (Unit {0})
+fileJudgement s = judgedBy (fileRows s)
 
 -- what the table says of the file s lent with a number of answer cells
 unfoldable pub judgement : List ℕ → ℕ → Answer (Unit {0})

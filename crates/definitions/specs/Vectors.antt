@@ -8,17 +8,29 @@ use Rattle.definitions.specs.Chain.{Chain, padded}
 abbrev pub ONE : ℕ
 ONE = 1000000000000
 
--- V, the row mean of a vector v at i: the sum over j of c(i,j) × v(j), over E, down
+-- what V divides, for a vector v at i: the sum over j of c(i,j) × v(j)
+abbrev pub rowTotal : Chain → (ℕ → ℕ) → ℕ → ℕ
+rowTotal ch v i = sum (ch .states) (λ j. ch .entry i j * v j)
+
+-- V, the row mean of v at i: that sum over E, down
 unfoldable pub rowMean : Chain → (ℕ → ℕ) → ℕ → ℕ
-rowMean ch v i = sum (ch .states) (λ j. ch .entry i j * v j) / ch .rate
+rowMean ch v i = rowTotal ch v i / ch .rate
 
--- W, the reward share of x ticks at i: f(i) × x, over F, down
+-- what W divides, for x ticks at i: f(i) × x
+abbrev pub rewarded : Chain → ℕ → ℕ → ℕ
+rewarded ch x i = ch .reward i * x
+
+-- W, the reward share of x ticks at i: that product over F, down
 unfoldable pub rewardShare : Chain → ℕ → ℕ → ℕ
-rewardShare ch x i = ch .reward i * x / ch .largestReward
+rewardShare ch x i = rewarded ch x i / ch .largestReward
 
--- (n × V + r × W) over (n + r), down
+-- what U divides: n × V + r × W
+abbrev pub mixed : ℕ → ℕ → ℕ → ℕ → ℕ
+mixed n r v w = n * v + r * w
+
+-- that sum over (n + r), down
 unfoldable pub mix : ℕ → ℕ → ℕ → ℕ → ℕ
-mix n r v w = (n * v + r * w) / (n + r)
+mix n r v w = mixed n r v w / (n + r)
 
 -- U(n,r) at i for n, r ≥ 1, where before is U(n−1,r) and same is U(n,r−1)
 unfoldable pub nextEntry : Chain → ℕ → ℕ → (ℕ → ℕ) → (ℕ → ℕ) → ℕ → ℕ

@@ -1,5 +1,5 @@
 // The answers and the sizes that the calculator's functions share. The paper's answer for each case of an enum is defined in specs/:
-// of a Judgement in Rules.antt, of an Outcome in Moment.antt, of a Series in Series.antt. The chain that stands in arrays of given Sizes is defined in Chain.antt.
+// of a Judgement in Rules.antt, of an Outcome in Moment.antt, of a Series in Series.antt, of Remainders in Remainders.antt. The chain that stands in arrays of given Sizes is defined in Chain.antt.
 
 // ONE: 10^12 ticks.
 pub const ONE: u64 = 1_000_000_000_000;
@@ -23,6 +23,28 @@ pub enum Outcome {
 // time, or the number of the refusal.
 pub enum Series {
     Accepted,
+    Refused(u8),
+}
+
+// Quotient and remainder of a division.
+pub struct Division {
+    pub quotient: u64,
+    pub remainder: u64,
+}
+
+// What the three divisions of U(n,r) at a state leave: the remainders of V, the row mean, of W, the reward share, and of U,
+// their mix.
+pub struct Rests {
+    pub mean: u64,
+    pub share: u64,
+    pub mix: u64,
+}
+
+// What a call that takes a file, a state, n and r answers: the remainders, nothing where the file has no such U(n,r), or the
+// number of the refusal.
+pub enum Remainders {
+    Given(Rests),
+    Nothing,
     Refused(u8),
 }
 

@@ -12,7 +12,7 @@ use borrow.Author.Tests.{ltb-true, ltb-false, leb-false, eqb-true, eqb-false, no
 use Rattle.definitions.specs.Sums.{largest, anyAbove}
 use Rattle.definitions.specs.File.{lengthField, stateCount, highestMoment, toleranceField, timeField, rewardField}
 use Rattle.definitions.specs.Chain.{Model, modelOf, atTime, rowSum, uniformRate, maxReward, jumpMillionths, chainOf}
-use Rattle.definitions.specs.Rules.{accepted, Rows, framing, startsAtZero, quantities, fallsUpTo, listing, lastTime, jumps, room, blockSize, rows, seriesRows, firstHeld, judgedBy, judgement, seriesJudgement}
+use Rattle.definitions.specs.Rules.{accepted, Rows, framing, startsAtZero, quantities, fallsUpTo, listing, lastTime, jumps, room, blockSize, fileRows, rows, seriesRows, firstHeld, judgedBy, fileJudgement, judgement, seriesJudgement}
 use Rattle.definitions.specs.Series.{modelAt}
 use Rattle.laws.specs.SumLaws.{any-largest}
 use Rattle.laws.specs.RuleLaws.{andThen, in-parts, NoneHold, none-hold, accepted-value, none-in-parts}
@@ -20,7 +20,7 @@ use Rattle.laws.specs.ChainLaws.{rate-at, rate-pos, row-sums-to-rate, re
 use Rattle.laws.specs.VectorLaws.{Stochastic}
 
 -- neither of two tests holds
-neither : (a b : Bool) → (a || b) ≡ false → (a ≡ false) × (b ≡ false)
+pub neither : (a b : Bool) → (a || b) ≡ false → (a ≡ false) × (b ≡ false)
 neither true true h = absurd (let z : _≡_ {A = ℕ} 0 1 = cc in omega arith)
 neither true false h = absurd (let z : _≡_ {A = ℕ} 0 1 = cc in omega arith)
 neither false true h = absurd (let z : _≡_ {A = ℕ} 0 1 = cc in omega arith)
@@ -64,6 +64,11 @@ pub record WithinLimits (m : Model) : Type 0 where
   pub rate-max : uniformRate m ≤ 10000000
   pub jumps-pos : 1 ≤ jumpMillionths m
   pub jumps-max : jumpMillionths m ≤ 256000000
+
+-- what acceptance by rows 1 to 12 tells of a file
+pub record AcceptedModel (s : List ℕ) : Type 0 where
+  pub framed : Framed s
+  pub limits : WithinLimits (modelOf s)
 
 -- what acceptance tells of a file lent with a number of cells
 pub record AcceptedFile (s : List ℕ) (cells : ℕ) : Type 0 where
@@ -140,10 +145,15 @@ rateable s times E h =
       rate-max = omega (arith, none-above 10000000 (stateCount s) (rowSum (modelOf s)) (none .1 .1 .1 .1 .1 .0));
     }
 
--- the whole table: those rows, then the jumps and the room
-pub judgement-in-parts : (s : List ℕ) (cells : ℕ) → judgement s cells ≡ andThen (firstHeld (framing s ++ quantities (modelOf s) []) (uniformRate (modelOf s))) (judgedBy (jumps (uniformRate (modelOf s)) (timeField s) ++ room (blockSize s) cells))
-unfolding judgement rows
-judgement-in-parts s cells = rw append-assoc (in-parts (framing s ++ quantities (modelOf s) []) _ (uniformRate (modelOf s)) tt)
+-- rows 1 to 12: those rows, then the jumps
+pub file-in-parts : (s : List ℕ) → fileJudgement s ≡ andThen (firstHeld (framing s ++ quantities (modelOf s) []) (uniformRate (modelOf s))) (judgedBy (jumps (uniformRate (modelOf s)) (timeField s)))
+unfolding fileJudgement
+file-in-parts s = in-parts (framing s ++ quantities (modelOf s) []) (jumps (uniformRate (modelOf s)) (timeField s)) (uniformRate (modelOf s)) tt
+
+-- the whole table: rows 1 to 12, then the room
+pub judgement-in-parts : (s : List ℕ) (cells : ℕ) → judgement s cells ≡ andThen (fileJudgement s) (judgedBy (room (blockSize s) cells))
+unfolding judgement fileJudgement rows
+judgement-in-parts s cells = in-parts (fileRows s) (room (blockSize s) cells) tt tt
 
 -- the table of a series: those rows, then the list, the jumps and the room
 pub series-in-parts : (s times : List ℕ) (levels cells : ℕ) →
@@ -157,20 +167,28 @@ series-in-parts s times levels cells =
     ap (λ (t : Rows). judgedBy t) (ap (λ (t : Rows). t ++ room (length times) levels) (append-assoc (first ++ listing times) (jumps (uniformRate (modelOf s)) (lastTime times)) (room (length times * blockSize s) cells) ∙ append-assoc first (listing times) run) ∙ append-assoc first (listing times ++ run) (room (length times) levels))
     ∙ in-parts first _ (uniformRate (modelOf s)) tt
 
--- all of them: what acceptance tells
-pub accepted-file : (s : List ℕ) (cells : ℕ) → judgement s cells ≡ accepted tt → AcceptedFile s cells
-unfolding judgement rows jumps room
-accepted-file s cells passed =
-    let X : Rows = jumps (uniformRate (modelOf s)) (timeField s) in
-    let C : Rows = room (blockSize s) cells in
-    let last = none-in-parts (framing s ++ quantities (modelOf s) [] ++ X) C (none-hold (rows s cells) (tt {0}) tt passed) in
-    let to12 = none-in-parts (framing s ++ quantities (modelOf s) []) X (last .0) in
+-- rows 1 to 12: what acceptance tells
+model-by : (s : List ℕ) → NoneHold (fileRows s) → AcceptedModel s
+unfolding jumps
+model-by s none =
+    let to12 = none-in-parts (framing s ++ quantities (modelOf s) []) (jumps (uniformRate (modelOf s)) (timeField s)) none in
     let to11 = none-in-parts (framing s) (quantities (modelOf s) []) (to12 .0) in
     record {
       framed = framed-by s (to11 .0);
       limits = limits-by s [] (timeField s) (to11 .0) (to11 .1) (times-by s [] (to11 .1) .0) (ltb-false 256000000 (uniformRate (modelOf s) * timeField s) (to12 .1 .0));
-      room = ltb-false cells (stateCount s * highestMoment s) (last .1 .0);
     }
+
+pub accepted-model : (s : List ℕ) → fileJudgement s ≡ accepted tt → AcceptedModel s
+unfolding fileJudgement
+accepted-model s passed = model-by s (none-hold (fileRows s) (tt {0}) tt passed)
+
+-- all of them
+pub accepted-file : (s : List ℕ) (cells : ℕ) → judgement s cells ≡ accepted tt → AcceptedFile s cells
+unfolding judgement rows room
+accepted-file s cells passed =
+    let none = none-in-parts (fileRows s) (room (blockSize s) cells) (none-hold (rows s cells) (tt {0}) tt passed) in
+    let model = model-by s (none .0) in
+    record { framed = model .framed; limits = model .limits; room = ltb-false cells (stateCount s * highestMoment s) (none .1 .0) }
 
 -- row 15: up to time n each time is above the one before it, and so none is above a later one
 rises : (n : ℕ) (times : List ℕ) → fallsUpTo n times ≡ false → (k : ℕ) → k < n → getD times k 0 < getD times (suc k) 0

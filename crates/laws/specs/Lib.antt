@@ -19,3 +19,4 @@ pub mod AverageBound
 pub mod MomentLaws
 pub mod Demand3
 pub mod SeriesLaws
+pub mod RemainderLaws

@@ -6,13 +6,14 @@ use mathlib.Core.Path.{_≡_, refl, sym, _∙_, ap, ap₂}
 use mathlib.Core.List.{List}
 use lib.ListN.{getD}
 use Rattle.definitions.specs.Sums.{over}
+use Rattle.definitions.specs.Division.{Divides, Rounds}
 use Rattle.definitions.specs.Chain.{Model, modelOf}
 use Rattle.definitions.specs.Vectors.{ONE}
 use Rattle.definitions.specs.Weights.{mode, weight, weightSum}
 use Rattle.definitions.specs.Moment.{term, weighted, lastQuotient, weightedMean, moment, cellOf, cell, modelLevel, outcome}
 use Rattle.definitions.specs.Rules.{Answer, accepted, refused, rows, judgement}
-use Rattle.laws.specs.Rounding.{quotient-at-most, quotient-below, remainder-below, row-of-place, place-in-row, place-below}
-use Rattle.laws.specs.Nearest.{nearest-within, nearest-at-most, nearest-by-halves}
+use Rattle.laws.specs.Rounding.{quotient-at-most, quotient-below, remainder-below, divides, row-of-place, place-in-row, place-below}
+use Rattle.laws.specs.Nearest.{nearest-within, nearest-at-most, nearest-rounds}
 use Rattle.laws.specs.SumLaws.{sum-mono}
 use Rattle.laws.specs.RuleLaws.{accepted-is-no-refusal, other-value}
 use Rattle.laws.specs.ListLaws.{getD-over}
@@ -51,6 +52,11 @@ pub term-max : (w u : ℕ) → u ≤ ONE → term w u ≤ w
 unfolding term
 term-max w u h = quotient-at-most (w * u) w ONE (mul-le-mul-left w h)
 
+-- and drops the remainder of w × u by 10^12
+pub term-divides : (w u : ℕ) → Divides (w * u) ONE (term w u) (w * u % ONE)
+unfolding term
+term-divides w u = divides (w * u) ONE (omega arith)
+
 -- A is at most S where no u is above ONE
 pub weighted-max : (X N : ℕ) (u : ℕ → ℕ) → ((n : ℕ) → n ≤ N → u n ≤ ONE) → weighted X u N ≤ weightSum X N
 unfolding weighted weightSum
@@ -61,12 +67,10 @@ pub last-max : (A S : ℕ) → 0 < S → A ≤ S → lastQuotient A S ≤ ONE
 unfolding lastQuotient
 last-max A S pos h = nearest-at-most (A * ONE) ONE S pos (omega (arith, h))
 
--- by half ticks rounded down: one half more, cut to whole ticks
-pub last-by-halves : (A S : ℕ) → 0 < S → lastQuotient A S ≡ (A * (2 * ONE) / S + 1) / 2
+-- it rounds by the remainder of A × 10^12 by S
+pub last-rounds : (A S : ℕ) → 0 < S → Rounds (A * ONE) S (lastQuotient A S) (A * ONE % S)
 unfolding lastQuotient
-last-by-halves A S pos =
-    let twice : 2 * (A * ONE) ≡ A * (2 * ONE) = omega arith in
-    nearest-by-halves (A * ONE) S pos ∙ ap (λ (n : ℕ). (n / S + 1) / 2) twice
+last-rounds A S pos = nearest-rounds (A * ONE) S pos
 
 -- it is within one tick and in [0, 1]
 pub last-within : (X N : ℕ) (u : ℕ → ℕ) → mode X ≤ N → ((n : ℕ) → n ≤ N → u n ≤ ONE) → LastQuotient (weighted X u N) (weightSum X N) (weightedMean X u N)

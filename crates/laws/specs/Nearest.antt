@@ -9,8 +9,9 @@ use mathlib.Core.Path.{_≡_, ap}
 use lib.Dec.{leb}
 use borrow.Author.Tests.{le-leb, lt-leb}
 use Rattle.definitions.specs.Sums.{pick}
+use Rattle.definitions.specs.Division.{Rounds}
 use Rattle.definitions.specs.Moment.{nearest}
-use Rattle.laws.specs.Rounding.{quotient-low, quotient-high, quotient-at-least, quotient-below, quotient-unique, quotient-remainder, remainder-below}
+use Rattle.laws.specs.Rounding.{quotient-low, quotient-high, quotient-at-least, quotient-below, quotient-unique, quotient-remainder, remainder-below, divides}
 
 -- n is at most one half away from a / c, either way: twice the distance of n × c from a is at most c
 pub record WithinHalf (a c n : ℕ) : Type 0 where
@@ -65,10 +66,6 @@ nearest-by-remainder a c pos = from (decLe c (2 * (a % c)))
     from (yes l) = rw (le-leb c (2 * (a % c)) l) (nearest-is a c (a / c + 1) (omega (arith, quotient-remainder a c)) (omega (arith, quotient-remainder a c, remainder-below a c pos)))
     from (no l) = rw (lt-leb c (2 * (a % c)) (omega (arith, l))) (nearest-is a c (a / c + 0) (omega (arith, quotient-remainder a c)) (omega (arith, l, quotient-remainder a c)))
 
--- by halves rounded down: one half more, cut to whole ones
-pub nearest-by-halves : (a c : ℕ) → 0 < c → nearest a c ≡ (2 * a / c + 1) / 2
-nearest-by-halves a c pos =
-    let halves : ℕ = 2 * a / c in
-    let parts = ap (λ (n : ℕ). n * c) (quotient-remainder (halves + 1) 2) in
-    let odd = mul-le-mul-right c (remainder-below (halves + 1) 2 (omega arith)) in
-    nearest-is a c ((halves + 1) / 2) (omega (arith, parts, quotient-remainder (2 * a) c)) (omega (arith, parts, odd, quotient-remainder (2 * a) c, remainder-below (2 * a) c pos))
+-- so the nearest number rounds the quotient by the remainder
+pub nearest-rounds : (a c : ℕ) → 0 < c → Rounds a c (nearest a c) (a % c)
+nearest-rounds a c pos = record { quotient = a / c; divides = divides a c pos; rounded = nearest-by-remainder a c pos }

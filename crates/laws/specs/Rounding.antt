@@ -1,9 +1,11 @@
 -- Quotient and remainder, argued once for any divisor: every other proof cites these. `a / 0` is 0, so a law that needs a divisor says `0 < c`.
 -- Assumes nothing.
-use mathlib.Core.Path.{_≡_, refl, ap, ap₂}
+use mathlib.Core.Path.{_≡_, refl, sym, ap, ap₂}
 use Prim.Native.Nat.{ℕ, zero, suc, _+_, _-_, _*_, _/_, _%_, _<_, _≤_}
 use native.Mathlib.Nat.{div-mul-le-self, lt-div-mul-add, le-div-iff-mul-le, div-lt-iff-lt-mul, div-eq-of-lt-le, div-zero, div-add-mod', mod-lt, mul-le-mul-right}
 use native.Mathlib.Omega.{arith}
+use Rattle.definitions.specs.declared.Division.{Division}
+use Rattle.definitions.specs.Division.{Divides, division}
 
 -- the quotient times the divisor does not pass the number
 pub quotient-low : (a c : ℕ) → a / c * c ≤ a
@@ -39,10 +41,21 @@ quotient-remainder a c = div-add-mod' a c
 pub remainder-below : (a c : ℕ) → 0 < c → a % c < c
 remainder-below a c pos = mod-lt a pos
 
+-- so the quotient and the remainder divide the number
+pub divides : (a c : ℕ) → 0 < c → Divides a c (a / c) (a % c)
+divides a c pos = record { whole = quotient-remainder a c; rest = remainder-below a c pos }
+
 -- a number of divisors with a rest below the divisor has that rest as its remainder
 pub remainder-unique : (a c q r : ℕ) → r < c → q * c + r ≡ a → a % c ≡ r
 remainder-unique a c q r rest whole =
     omega (arith, quotient-remainder a c, ap (λ (n : ℕ). n * c) (quotient-unique a c q r rest whole))
+
+-- so what divides a number is its quotient and remainder
+pub division-is : (n c q r : ℕ) → Divides n c q r → record { quotient = q; remainder = r } ≡ division n c
+division-is n c q r d = ap₂ made (sym (quotient-unique n c q r (d .rest) (d .whole))) (sym (remainder-unique n c q r (d .rest) (d .whole)))
+  where
+    made : ℕ → ℕ → Division
+    made a b = record { quotient = a; remainder = b }
 
 -- from k divisors on, and below one more: the divisor goes k times into the number
 pub between-multiples : (a c k : ℕ) → k * c ≤ a → a < k * c + c → (a / c ≡ k) × (a % c ≡ a - k * c)
@@ -58,10 +71,12 @@ place-in-row i k c h = remainder-unique (i * c + k) c i k h refl
 pub place-below : (i k rows c : ℕ) → i < rows → k < c → i * c + k < rows * c
 place-below i k rows c h l = omega (arith, mul-le-mul-right c h)
 
--- the quotient of a product by k × k, from both factors cut at k: what the lower parts carry goes to the middle products, and what these carry to the upper one
-pub quotient-in-parts : (a b k : ℕ) → 0 < k → a * b / (k * k) ≡ a / k * (b / k) + (a / k * (b % k) + a % k * (b / k) + a % k * (b % k) / k) / k
-quotient-in-parts a b k pos =
-    quotient-unique (a * b) (k * k) (a1 * b1 + middle / k) (middle % k * k + low % k) (omega (arith, mul-le-mul-right k left, remainder-below low k pos)) whole
+-- a product by k × k, from both factors cut at k: what the lower parts carry goes to the middle products, and what these carry to the upper one
+pub divides-in-parts : (a b k : ℕ) → 0 < k →
+    let low = a % k * (b % k) in
+    let middle = a / k * (b % k) + a % k * (b / k) + low / k in
+    Divides (a * b) (k * k) (a / k * (b / k) + middle / k) (middle % k * k + low % k)
+divides-in-parts a b k pos = record { whole = whole; rest = omega (arith, mul-le-mul-right k left, remainder-below low k pos) }
   where
     a1 : ℕ
     a1 = a / k

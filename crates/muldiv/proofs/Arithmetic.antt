@@ -1,9 +1,10 @@
 -- The arithmetic under the proofs of the functions, over plain numbers. Assumes nothing.
-use mathlib.Core.Path.{_≡_, sym, ap, _∙_}
+use mathlib.Core.Path.{_≡_, ap, _∙_}
 use Prim.Native.Nat.{ℕ, _+_, _-_, _*_, _/_, _%_, _^_, _<_, _≤_}
 use native.Mathlib.Nat.{mul-le-mul-left, mul-le-mul-right, le-of-mul-le-mul-right}
 use native.Mathlib.Omega.{arith}
 use lib.Pow.{shr-shr, shr-le}
+use Rattle.definitions.specs.Division.{Divides}
 use Rattle.laws.specs.Rounding.{quotient-low, quotient-high, quotient-unique, quotient-remainder, remainder-below}
 use Rattle.muldiv.specs.MulDiv.{Walked}
 
@@ -38,10 +39,10 @@ walk-goes-on a b c left q r sum times rest walked is-times is-rest is-sum some p
     omega (arith, doubled a n, quotient-remainder sum c, remainder-below sum c pos, ap (λ (k : ℕ). k * c) is-times)
 
 -- the walk's end: no bit is still to come
-pub walk-ends : (a b c q r : ℕ) → Walked a b c 0 q r → q ≡ a * b / c
+pub walk-ends : (a b c q r : ℕ) → Walked a b c 0 q r → Divides (a * b) c q r
 walk-ends a b c q r walked =
     let all : a * (b / 1) ≡ a * b = ap (λ (n : ℕ). a * n) (omega arith) in
-    sym (quotient-unique (a * b) c q r (walked .rest) (omega arith))
+    omega arith
 
 -- what high times b and low come to, by the number of times that high goes into the room above low
 pub has-room : (high b low : ℕ) → low < 2 ^ 64 → b ≤ (2 ^ 64 - 1 - low) / high → high * b + low < 2 ^ 64
@@ -52,9 +53,6 @@ pub no-room : (high b low : ℕ) → low < 2 ^ 64 → 0 < high → (2 ^ 64 - 1 -
 no-room high b low fits pos h =
     omega (arith, mul-le-mul-right high h, quotient-high (2 ^ 64 - 1 - low) high pos)
 
--- a × b over c, from a = (a / c) × c + a % c
-pub joined : (a b c q : ℕ) → 0 < c → q ≡ a % c * b / c → a * b / c ≡ a / c * b + q
-joined a b c q pos is-low =
-    let low : ℕ = a % c * b in
-    quotient-unique (a * b) c (a / c * b + q) (low % c) (remainder-below low c pos)
-    (omega (arith, ap (λ (n : ℕ). n * b) (quotient-remainder a c), quotient-remainder low c, ap (λ (n : ℕ). n * c) is-low))
+-- a × b by c, from a = (a / c) × c + a % c: the remainder is that of (a % c) × b alone
+pub joined : (a b c q r : ℕ) → Divides (a % c * b) c q r → Divides (a * b) c (a / c * b + q) r
+joined a b c q r low = omega (arith, ap (λ (n : ℕ). n * b) (quotient-remainder a c))

@@ -1,29 +1,25 @@
--- What muldiv's contracts cite, and what its loop keeps: document 01, "Multiply, then divide", with document 02, S-2. Assumes nothing: these are definitions.
+-- What muldiv's contracts cite, and what its loop keeps: document 01, "Multiply, then divide", with document 02, S-2 and S-4. Assumes nothing: these are definitions.
 use mathlib.Core.Path.{_≡_}
 use mathlib.Core.Bool.{Bool, true, false}
-use Prim.Native.Nat.{ℕ, _+_, _*_, _/_, _^_, _<_, _≤_}
+use Prim.Native.Nat.{ℕ, _+_, _*_, _/_, _%_, _^_, _<_, _≤_}
 use lib.Dec.{leb, eqb}
-use Rattle.muldiv.specs.declared.Quotient.{Quotient}
-use Rattle.muldiv.specs.declared.Quotient.the-variants.{Of, Nothing}
+use Rattle.definitions.specs.Division.{Divides}
+use Rattle.muldiv.specs.declared.Divided.{Divided}
+use Rattle.muldiv.specs.declared.Divided.the-variants.{Into, Nothing}
 
 -- Nothing where the test holds
-abbrev pub unless : Bool → Quotient → Quotient
-unless true q = Nothing
-unless false q = q
+abbrev pub unless : Bool → Divided → Divided
+unless true d = Nothing
+unless false d = d
 
--- n, unless 64 bits do not hold it
-unfoldable pub fitted : ℕ → Quotient
-fitted n = unless (leb (2 ^ 64) n) (Of n)
+-- the quotient q with the remainder r, unless 64 bits do not hold q
+unfoldable pub fitted : ℕ → ℕ → Divided
+fitted q r = unless (leb (2 ^ 64) q) (Into (record { quotient = q; remainder = r }))
 
--- a × b over c, down. Nothing where c is 0, where a, b or c is 2^62 or more, or where the quotient is 2^64 or more.
-unfoldable pub quotientOf : ℕ → ℕ → ℕ → Quotient
-quotientOf a b c =
-    unless (eqb c 0) (unless (leb (2 ^ 62) a) (unless (leb (2 ^ 62) b) (unless (leb (2 ^ 62) c) (fitted (a * b / c)))))
-
--- n by c is q, and r is left over
-pub record Divides (n c q r : ℕ) : Type 0 where
-  pub whole : q * c + r ≡ n
-  pub rest : r < c
+-- a × b by c. Nothing where c is 0, where a, b or c is 2^62 or more, or where the quotient is 2^64 or more.
+unfoldable pub dividedOf : ℕ → ℕ → ℕ → Divided
+dividedOf a b c =
+    unless (eqb c 0) (unless (leb (2 ^ 62) a) (unless (leb (2 ^ 62) b) (unless (leb (2 ^ 62) c) (fitted (a * b / c) (a * b % c)))))
 
 -- b, which 64 bits hold, has n bits: n is the least number with b below 2 ^ n, since half of 2 ^ n is at most b, or n and b are 0
 pub record BitCount (b n : ℕ) : Type 0 where

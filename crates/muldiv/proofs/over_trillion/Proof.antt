@@ -1,8 +1,8 @@
 -- `muldiv::over_trillion` meets its contract. Assumes nothing.
-use Prim.Native.Nat.{ℕ, _*_, _/_, _%_, _^_, _≤_}
+use Prim.Native.Nat.{ℕ, _+_, _*_, _/_, _%_, _^_, _≤_}
 use native.Mathlib.Nat.{mul-le-mul}
 use native.Mathlib.Omega.{arith}
-use Rattle.laws.specs.Rounding.{quotient-at-most, remainder-below, quotient-in-parts}
+use Rattle.laws.specs.Rounding.{quotient-at-most, remainder-below, division-is, divides-in-parts}
 use Rattle.muldiv.proofs.over_trillion.Statement.{statement}
 use Rattle.muldiv.proofs.over_trillion.Tie as tie
 
@@ -30,8 +30,12 @@ module _ (c : tie.Start) where
   upper : c .args .a / MILLION * (c .args .b / MILLION) ≤ 10 ^ 9 * MILLION
   upper = mul-le-mul (upper-max (c .args .a) (10 ^ 9) (c .pre .0)) (upper-max (c .args .b) MILLION (c .pre .1))
 
+-- what the middle products leave
+left : (c : tie.Start) → (c .args .a / MILLION * (c .args .b % MILLION) + c .args .a % MILLION * (c .args .b / MILLION) + c .args .a % MILLION * (c .args .b % MILLION) / MILLION) % MILLION ≤ MILLION
+left c = lower-max _
+
 returns : tie.Need-returns
-returns c = omega (arith, quotient-in-parts (c .args .a) (c .args .b) MILLION (omega arith))
+returns c = division-is (c .args .a * c .args .b) (MILLION * MILLION) _ _ (omega (arith, divides-in-parts (c .args .a) (c .args .b) MILLION (omega arith)))
 
 pub over-trillion-spec : {M : Type 1} → statement M
 over-trillion-spec =
@@ -44,4 +48,6 @@ over-trillion-spec =
     (λ c. omega (arith, lower c, middle c, middle-2 c))
     (λ c. omega (arith, upper c))
     (λ c. omega (arith, upper c, lower c, middle c, middle-2 c))
+    (λ c. omega (arith, left c))
+    (λ c. omega (arith, left c))
     returns)

@@ -8,8 +8,8 @@ use Rattle.muldiv.proofs.scaled.Tie as tie
 mul-div-requires : tie.Need-mul-div-requires
 mul-div-requires c κs = search needs
 
-enum-known-q : tie.Need-enum-known-q
-enum-known-q c = search needs
+enum-known-d : tie.Need-enum-known-d
+enum-known-d c = search needs
 
 enum-told : tie.Need-enum-told
 enum-told c = search needs
@@ -18,7 +18,7 @@ returns : tie.Need-returns
 returns c =
     let args = c .before .before .before .before .args in
     let call = c .before .before .before .mul-div in
-    given (args .a) (args .b) (args .c) (c .before .q .given .0 .0) (sym (call .ensures) ∙ c .before .q .given .1) .value
+    given (args .a) (args .b) (args .c) (c .before .d .given .0 .0) (sym (call .ensures) ∙ c .before .d .given .1) .value
 
 returns-2 : tie.Need-returns-2
 returns-2 c =
@@ -28,4 +28,4 @@ returns-2 c =
     absurd (never-nothing (args .a) (args .b) (args .c) (start .pre) (sym (call .ensures) ∙ c .enum-told .given .1))
 
 pub scaled-spec : {M : Type 1} → statement M
-scaled-spec = tie.close (tie.spec mul-div-requires enum-known-q enum-told returns returns-2)
+scaled-spec = tie.close (tie.spec mul-div-requires enum-known-d enum-told returns returns-2)

@@ -12,8 +12,8 @@ use Rattle.muldiv.proofs.total.Tie as tie
 returns : tie.Need-returns
 returns c =
     let args = c .before .args in
-    let sum : args .high * args .b + args .low ≡ args .low = omega (arith, ap (λ (n : ℕ). n * args .b) (c .if1 .taken)) in
-    rw sum (sym (fitted-small (args .low) (omega arith)))
+    let sum : args .high * args .b + args .low .quotient ≡ args .low .quotient = omega (arith, ap (λ (n : ℕ). n * args .b) (c .if1 .taken)) in
+    rw sum (sym (fitted-small (args .low .quotient) (args .low .remainder) (omega arith)))
 
 sub-if2 : tie.Need-sub-if2
 sub-if2 c = search needs
@@ -24,23 +24,23 @@ div-if2 c = search needs
 -- no room for the sum
 returns-2 : tie.Need-returns-2
 returns-2 c =
-    let args = c .before .before .args in
-    sym (fitted-large (args .high * args .b + args .low) (no-room (args .high) (args .b) (args .low) (omega arith) (omega arith) (omega arith)))
+    let args = c .before .before .before .args in
+    sym (fitted-large _ _ (no-room (args .high) (args .b) (args .low .quotient) (omega arith) (omega arith) (omega arith)))
 
 -- past both tests the sum fits
-below : (c : tie.Else2) → c .before .before .args .high * c .before .before .args .b + c .before .before .args .low < 2 ^ 64
+below : (c : tie.Else2) → let args = c .before .before .before .args in args .high * args .b + args .low .quotient < 2 ^ 64
 below c =
-    let args = c .before .before .args in
-    has-room (args .high) (args .b) (args .low) (omega arith) (omega arith)
+    let args = c .before .before .before .args in
+    has-room (args .high) (args .b) (args .low .quotient) (omega arith) (omega arith)
 
 mul-t5 : tie.Need-mul-t5
 mul-t5 c = omega (arith, below c)
 
 add-t6 : tie.Need-add-t6
-add-t6 c = omega (arith, below c)
+add-t6 c = omega (arith, below (c .before))
 
 returns-3 : tie.Need-returns-3
-returns-3 c = sym (fitted-small _ (below c))
+returns-3 c = sym (fitted-small _ _ (below (c .before)))
 
 pub total-spec : {M : Type 1} → statement M
 total-spec = tie.close (tie.spec returns sub-if2 div-if2 returns-2 mul-t5 add-t6 returns-3)

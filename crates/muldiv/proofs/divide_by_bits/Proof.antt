@@ -1,12 +1,13 @@
--- `muldiv::quotient_by_bits` meets its contract. Assumes nothing.
+-- `muldiv::divide_by_bits` meets its contract. Assumes nothing.
 -- The loop's invariant: quotient and remainder of a times the bits of b that have been walked. The measure is the number of those still to come.
 use mathlib.Core.Path.{_≡_, ap}
 use Prim.Native.Nat.{ℕ, _+_, _-_, _*_, _/_, _%_, _^_, _<_, _≤_}
 use native.Mathlib.Omega.{arith}
+use Rattle.laws.specs.Rounding.{division-is}
 use Rattle.muldiv.specs.MulDiv.{Walked}
 use Rattle.muldiv.proofs.Arithmetic.{walk-starts, walk-goes-on, walk-ends, at-most-once, walked-at-most}
-use Rattle.muldiv.proofs.quotient_by_bits.Statement.{statement}
-use Rattle.muldiv.proofs.quotient_by_bits.Tie as tie
+use Rattle.muldiv.proofs.divide_by_bits.Statement.{statement}
+use Rattle.muldiv.proofs.divide_by_bits.Tie as tie
 
 abbrev Inv-loop : tie.InvT-loop
 Inv-loop a b c quotient₀ remainder₀ left₀ quotient remainder left = (left ≤ 64) × Walked a b c left quotient remainder
@@ -50,10 +51,10 @@ returns c =
     let loop = c .before .loop in
     let args = c .before .before .before .args in
     let end : loop .bits-left ≡ 0 = omega arith in
-    walk-ends (args .a) (args .b) (args .c) (loop .quotient) (loop .remainder) (rw end at (loop .inv .1))
+    division-is (args .a * args .b) (args .c) _ _ (omega (arith, walk-ends (args .a) (args .b) (args .c) (loop .quotient) (loop .remainder) (rw end at (loop .inv .1))))
 
-pub quotient-by-bits-spec : {M : Type 1} → statement M
-quotient-by-bits-spec =
+pub divide-by-bits-spec : {M : Type 1} → statement M
+divide-by-bits-spec =
     tie.close
     (tie.spec
     Inv-loop

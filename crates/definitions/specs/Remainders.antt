@@ -1,0 +1,77 @@
+-- Document 02, S-4, "Hand back what a division leaves": the remainders of V, W and U for one state, n and r, and what a call answers that gives them.
+use Prim.Native.Nat.{ℕ, _+_, _-_, _%_}
+use mathlib.Core.List.{List}
+use mathlib.Core.Bool.{Bool, _||_}
+use lib.Dec.{eqb, ltb}
+use Rattle.definitions.specs.declared.Rests.{Rests}
+use Rattle.definitions.specs.declared.Remainders.{Remainders}
+use Rattle.definitions.specs.declared.Remainders.the-variants as answered
+use Rattle.definitions.specs.Sums.{pick}
+use Rattle.definitions.specs.Division.{Divides}
+use Rattle.definitions.specs.Chain.{Model, modelOf, Chain, chainOf}
+use Rattle.definitions.specs.Rules.{Answer, accepted, refused, fileRows, firstHeld}
+use Rattle.definitions.specs.Vectors.{rowTotal, rowMean, rewarded, rewardShare, mixed, U}
+use Rattle.definitions.specs.Moment.{modelLevel}
+
+-- V of U(n,r) at i, the row mean of U(n−1,r), and the sum that it divides by E
+abbrev pub meanOf : Chain → ℕ → ℕ → ℕ → ℕ
+meanOf ch n r i = rowMean ch (U ch (n - 1) r) i
+
+abbrev pub meanDividend : Chain → ℕ → ℕ → ℕ → ℕ
+meanDividend ch n r i = rowTotal ch (U ch (n - 1) r) i
+
+-- W of U(n,r) at i, the reward share of U(n,r−1), and the product that it divides by F
+abbrev pub shareOf : Chain → ℕ → ℕ → ℕ → ℕ
+shareOf ch n r i = rewardShare ch (U ch n (r - 1) i) i
+
+abbrev pub shareDividend : Chain → ℕ → ℕ → ℕ → ℕ
+shareDividend ch n r i = rewarded ch (U ch n (r - 1) i) i
+
+-- n × V + r × W, which U(n,r) at i divides by n + r
+abbrev pub mixDividend : Chain → ℕ → ℕ → ℕ → ℕ
+mixDividend ch n r i = mixed n r (meanOf ch n r i) (shareOf ch n r i)
+
+-- what the three divisions leave
+unfoldable pub restsAt : Chain → ℕ → ℕ → ℕ → Rests
+restsAt ch n r i =
+    record {
+      mean = meanDividend ch n r i % ch .rate;
+      share = shareDividend ch n r i % ch .largestReward;
+      mix = mixDividend ch n r i % (n + r);
+    }
+
+-- a number that is not from 1 to most
+abbrev pub outside : ℕ → ℕ → Bool
+outside x most = eqb x 0 || ltb most x
+
+-- what is given of something that need not be there
+pub data Maybe (A : Type 0) : Type 0 where
+  none : Maybe A
+  given : A → Maybe A
+
+-- of a model, for a state counted from 1: none where the state is outside 1 to M, n outside 1 to N or r outside 1 to R
+unfoldable pub restsOf : Model → ℕ → ℕ → ℕ → Maybe Rests
+restsOf m state n r =
+    pick (outside state (m .states) || outside n (modelLevel m) || outside r (m .highest)) none (given (restsAt (chainOf m) n r (state - 1)))
+
+-- what a call answers of the file s: the first of rows 1 to 12 that holds, before all else
+unfoldable pub remaindersOf : List ℕ → ℕ → ℕ → ℕ → Answer (Maybe Rests)
+remaindersOf s state n r = firstHeld (fileRows s) (restsOf (modelOf s) state n r)
+
+-- document 02's answer for each case of the enum
+abbrev pub remaindersAnswer : Remainders → Answer (Maybe Rests)
+remaindersAnswer (answered.Given x) = accepted (given x)
+remaindersAnswer answered.Nothing = accepted none
+remaindersAnswer (answered.Refused k) = refused k
+
+-- the three divisions of U(n,r) at i with their remainders: each dividend, divisor and quotient is the one by which the vectors come about
+pub record Worked (ch : Chain) (n r i : ℕ) (x : Rests) : Type 0 where
+  pub mean : Divides (meanDividend ch n r i) (ch .rate) (meanOf ch n r i) (x .mean)
+  pub share : Divides (shareDividend ch n r i) (ch .largestReward) (shareOf ch n r i) (x .share)
+  pub mix : Divides (mixDividend ch n r i) (n + r) (U ch n r i) (x .mix)
+
+-- of an answer: remainders that are given are those of U(n,r) at the state
+abbrev pub WorkedOut : Answer (Maybe Rests) → List ℕ → ℕ → ℕ → ℕ → Type 0
+WorkedOut (accepted (given x)) s state n r = Worked (chainOf (modelOf s)) n r (state - 1) x
+WorkedOut (accepted none) s state n r = Unit {0}
+WorkedOut (refused k) s state n r = Unit {0}

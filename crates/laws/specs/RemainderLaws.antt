@@ -1,0 +1,88 @@
+-- What the divisions of U(n,r) leave: quotient, divisor and remainder of each, and when a call gives them.
+use Prim.Native.Nat.{ℕ, _+_, _-_, _≤_, _<_}
+use native.Mathlib.Omega.{arith}
+use mathlib.Core.Path.{_≡_, refl, sym, _∙_, ap}
+use mathlib.Core.Bool.{Bool, true, false, _||_}
+use mathlib.Core.List.{List}
+use Rattle.definitions.specs.declared.Rests.{Rests}
+use Rattle.definitions.specs.Division.{Divides}
+use Rattle.definitions.specs.Chain.{Model, Chain, modelOf, chainOf}
+use Rattle.definitions.specs.Rules.{Answer, accepted, refused, fileRows, fileJudgement}
+use Rattle.definitions.specs.Vectors.{rowMean, rewardShare, mix, U}
+use Rattle.definitions.specs.Moment.{modelLevel}
+use Rattle.definitions.specs.Remainders.{meanOf, meanDividend, shareOf, shareDividend, mixDividend, restsAt, outside, Maybe, none, given, restsOf, remaindersOf, Worked, WorkedOut}
+use Rattle.laws.specs.Rounding.{divides}
+use Rattle.laws.specs.RuleLaws.{none-hold, accepted-value, other-value}
+use Rattle.laws.specs.Acceptance.{neither, in-range, AcceptedModel, accepted-model}
+use Rattle.laws.specs.VectorLaws.{U-mixed}
+
+-- quotient × divisor + remainder is the dividend, the remainder is below the divisor, and the quotients are V, W and U(n,r)
+pub worked : (ch : Chain) (n r i : ℕ) → 0 < ch .rate → 0 < ch .largestReward → 1 ≤ n → 1 ≤ r → Worked ch n r i (restsAt ch n r i)
+unfolding restsAt rowMean rewardShare mix
+worked ch n r i rate-pos reward-pos hn hr =
+    record {
+      mean = divides (meanDividend ch n r i) (ch .rate) rate-pos;
+      share = divides (shareDividend ch n r i) (ch .largestReward) reward-pos;
+      mix = rw (U-mixed ch n r i hn hr) (divides (mixDividend ch n r i) (n + r) (omega arith));
+    }
+
+-- outside their limits state, n and r have none
+pub rests-none : (m : Model) (state n r : ℕ) → (outside state (m .states) || outside n (modelLevel m) || outside r (m .highest)) ≡ true → restsOf m state n r ≡ none
+unfolding restsOf
+rests-none m state n r h = rw h
+
+-- within them they have those of U(n,r)
+pub rests-given : (m : Model) (state n r : ℕ) → (outside state (m .states) || outside n (modelLevel m) || outside r (m .highest)) ≡ false → restsOf m state n r ≡ given (restsAt (chainOf m) n r (state - 1))
+unfolding restsOf
+rests-given m state n r h = rw h
+
+-- the file's refusal comes before all else
+pub remainders-refused : (s : List ℕ) (state n r k : ℕ) → fileJudgement s ≡ refused k → remaindersOf s state n r ≡ refused k
+unfolding remaindersOf fileJudgement
+remainders-refused s state n r k e = other-value (fileRows s) (tt {0}) (restsOf (modelOf s) state n r) ∙ rw e refl
+
+pub remainders-accepted : (s : List ℕ) (state n r : ℕ) → fileJudgement s ≡ accepted tt → remaindersOf s state n r ≡ accepted (restsOf (modelOf s) state n r)
+unfolding remaindersOf fileJudgement
+remainders-accepted s state n r e = other-value (fileRows s) (tt {0}) (restsOf (modelOf s) state n r) ∙ rw e refl
+
+-- state, n and r of remainders that are given are within their limits
+pub record Inside (m : Model) (state n r : ℕ) : Type 0 where
+  pub state-min : 1 ≤ state
+  pub state-max : state ≤ m .states
+  pub jumps-min : 1 ≤ n
+  pub jumps-max : n ≤ modelLevel m
+  pub moment-min : 1 ≤ r
+  pub moment-max : r ≤ m .highest
+
+pub inside : (m : Model) (state n r : ℕ) → (outside state (m .states) || outside n (modelLevel m) || outside r (m .highest)) ≡ false → Inside m state n r
+inside m state n r h =
+    let two = neither (outside state (m .states) || outside n (modelLevel m)) (outside r (m .highest)) h in
+    let one = neither (outside state (m .states)) (outside n (modelLevel m)) (two .0) in
+    let states = in-range state (m .states) (one .0) in
+    let jumps = in-range n (modelLevel m) (one .1) in
+    let moments = in-range r (m .highest) (two .1) in
+    record {
+      state-min = states .0;
+      state-max = states .1;
+      jumps-min = jumps .0;
+      jumps-max = jumps .1;
+      moment-min = moments .0;
+      moment-max = moments .1;
+    }
+
+-- remainders that are given are those of the file's own divisions
+pub worked-out : (s : List ℕ) (state n r : ℕ) → WorkedOut (remaindersOf s state n r) s state n r
+worked-out s state n r = from (fileJudgement s) refl
+  where
+    m : Model
+    m = modelOf s
+
+    within : AcceptedModel s → (b : Bool) → (outside state (m .states) || outside n (modelLevel m) || outside r (m .highest)) ≡ b → WorkedOut (accepted (restsOf m state n r)) s state n r
+    within model true h = rw (rests-none m state n r h) tt
+    within model false h =
+        let i = inside m state n r h in
+        rw (rests-given m state n r h) (worked (chainOf m) n r (state - 1) (model .limits .rate-min) (model .limits .rewards-pos) (i .jumps-min) (i .moment-min))
+
+    from : (a : Answer (Unit {0})) → fileJudgement s ≡ a → WorkedOut (remaindersOf s state n r) s state n r
+    from (accepted tt) e = rw (remainders-accepted s state n r e) (within (accepted-model s e) (outside state (m .states) || outside n (modelLevel m) || outside r (m .highest)) refl)
+    from (refused k) e = rw (remainders-refused s state n r k e) tt
