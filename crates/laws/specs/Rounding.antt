@@ -57,6 +57,13 @@ division-is n c q r d = ap₂ made (sym (quotient-unique n c q r (d .rest) (d .w
     made : ℕ → ℕ → Division
     made a b = record { quotient = a; remainder = b }
 
+-- what a division hands back: its quotient, and the remainder that goes with it
+pub quotient-of : (n c : ℕ) {d : Division} → d ≡ division n c → d .quotient ≡ n / c
+quotient-of n c e = ap (λ (d : Division). d .quotient) e
+
+pub drops : (n c : ℕ) {d : Division} → d ≡ division n c → 0 < c → Divides n c (d .quotient) (n % c)
+drops n c e pos = rw e (divides n c pos)
+
 -- from k divisors on, and below one more: the divisor goes k times into the number
 pub between-multiples : (a c k : ℕ) → k * c ≤ a → a < k * c + c → (a / c ≡ k) × (a % c ≡ a - k * c)
 between-multiples a c k low high = (quotient-unique a c k (a - k * c) (omega arith) (omega arith), remainder-unique a c k (a - k * c) (omega arith) (omega arith))

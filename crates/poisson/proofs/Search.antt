@@ -1,5 +1,5 @@
 -- The search for the level, over plain numbers: one test of n, and what its answer tells. Assumes nothing.
-use mathlib.Core.Path.{_≡_}
+use mathlib.Core.Path.{_≡_, refl}
 use mathlib.Core.Bool.{true, false}
 use Prim.Native.Nat.{ℕ, _+_, _*_, _-_, _/_, _≤_, _<_}
 use native.Mathlib.Omega.{arith}
@@ -24,28 +24,26 @@ pub tested : (X ε n t a : ℕ) → X ≤ n * MILLION → t ≡ tailBound X n �
 unfolding passes?
 tested X ε n t a h p q = rw (le-leb X (n * MILLION) h, p, q)
 
--- t, with the divisor as the code has it
-pub tail : (X n w m : ℕ) → w ≡ weight X n → m ≡ mode X → 1 + (w + n - m) * X / (n * MILLION + MILLION - X) ≡ tailBound X n
+-- t, from w(n)
+pub tail : (X n w : ℕ) → w ≡ weight X n → 1 + (w + n - mode X) * X / ((n + 1) * MILLION - X) ≡ tailBound X n
 unfolding tailBound
-tail X n w m e q =
-    let divisor : n * MILLION + MILLION - X ≡ (n + 1) * MILLION - X = omega arith in
-    rw (divisor, e, q)
+tail X n w e = rw e refl
 
 module _ (X n a : ℕ) (jumps-max : X ≤ 256000000) (reached : X ≤ n * MILLION) where
   -- X is at most 256 times the divisor of t
-  few : a * X ≤ a * 256 * (n * MILLION + MILLION - X)
+  few : a * X ≤ a * 256 * ((n + 1) * MILLION - X)
   few =
-      let room : X ≤ 256 * (n * MILLION + MILLION - X) = omega arith in
+      let room : X ≤ 256 * ((n + 1) * MILLION - X) = omega arith in
       omega (arith, mul-le-mul-left a room)
 
   -- so the quotient in t is at most 256 a
-  pub tail-max : a * X / (n * MILLION + MILLION - X) ≤ a * 256
-  tail-max = quotient-at-most (a * X) (a * 256) (n * MILLION + MILLION - X) few
+  pub tail-max : a * X / ((n + 1) * MILLION - X) ≤ a * 256
+  tail-max = quotient-at-most (a * X) (a * 256) ((n + 1) * MILLION - X) few
 
   -- and fits
-  pub tail-scalable : n < LEVELS → a ≤ 2000000000000000 → Scalable a X (n * MILLION + MILLION - X)
+  pub tail-scalable : n < LEVELS → a ≤ 2000000000000000 → Scalable a X ((n + 1) * MILLION - X)
   tail-scalable last small =
-      scalable-by a X (n * MILLION + MILLION - X) (a * 256) (omega arith) (omega arith) (omega arith) (omega arith) few (omega arith)
+      scalable-by a X ((n + 1) * MILLION - X) (a * 256) (omega arith) (omega arith) (omega arith) (omega arith) few (omega arith)
 
 module _ (X ε n : ℕ) (jumps-max : X ≤ 256000000) (tolerance-pos : 1 ≤ ε) (before : n ≤ level X ε) where
   -- an n that does not pass is below the level

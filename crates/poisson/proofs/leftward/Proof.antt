@@ -58,9 +58,9 @@ loop-again c =
       omega arith,
       omega (arith, length-set (loop .weights) (n - 1) w),
       omega (arith, length-set (loop .weights) (n - 1) w),
-      c .step-left .ensures,
+      c .step-left .ensures .0,
       more c,
-      rw back at (store-over 0 (n - 1) (weight x) (loop .weights) w (omega arith) (c .step-left .ensures)) ∙ loop .inv .5,
+      rw back at (store-over 0 (n - 1) (weight x) (loop .weights) w (omega arith) (c .step-left .ensures .0)) ∙ loop .inv .5,
     )
 
 returns : tie.Need-returns Inv-loop μ-loop

@@ -4,6 +4,7 @@ use Prim.Native.Nat.{ℕ, _+_, _*_, _-_, _/_, _≤_}
 use native.Mathlib.Omega.{arith}
 use native.Mathlib.Nat.{mul-assoc}
 use Rattle.definitions.specs.Weights.{MILLION, mode, weight}
+use Rattle.laws.specs.Rounding.{quotient-of, drops}
 use Rattle.laws.specs.WeightLaws.{mode-low, weight-max, weight-left}
 use Rattle.muldiv.specs.QuotientLaws.{scalable-part}
 use Rattle.poisson.proofs.step_left.Statement.{statement}
@@ -24,7 +25,10 @@ returns : tie.Need-returns
 returns c =
     let args = c .before .args in
     let given : args .w ≡ weight (args .x) (args .n) = c .before .pre .0 in
-    c .scaled .ensures ∙ ap (λ (w : ℕ). w * (args .n * MILLION) / args .x) given ∙ sym (weight-before (args .x) (args .n) (omega arith) (omega arith))
+    let product : args .w * (args .n * MILLION) ≡ args .w * args .n * MILLION = omega arith in (
+      quotient-of (args .w * (args .n * MILLION)) (args .x) (c .scaled .ensures) ∙ ap (λ (w : ℕ). w * (args .n * MILLION) / args .x) given ∙ sym (weight-before (args .x) (args .n) (omega arith) (omega arith)),
+      rw (← product) (drops (args .w * (args .n * MILLION)) (args .x) (c .scaled .ensures) (omega (arith, mode-low (args .x)))),
+    )
 
 pub step-left-spec : {M : Type 1} → statement M
 step-left-spec = tie.close (tie.spec (λ c. omega (arith, mode-low (c .args .x))) scaled-requires returns)

@@ -101,9 +101,9 @@ loop-again c =
     let loop = c .before .before .before .loop in (
       omega arith,
       ahead (c .before),
-      c .step-right .ensures,
+      c .step-right .ensures .0,
       omega (arith, weightSum-next x (loop .n)),
-      over-store (loop .n + 1) (weight x) (left .leftward .last .1 .0) (loop .weights) (c .step-right .result) (omega (arith, room left, inside (c .before), left .leftward .kept)) (loop .inv .4) (c .step-right .ensures),
+      over-store (loop .n + 1) (weight x) (left .leftward .last .1 .0) (loop .weights) (c .step-right .result) (omega (arith, room left, inside (c .before), left .leftward .kept)) (loop .inv .4) (c .step-right .ensures .0),
       simp length-set (loop .inv .5),
     )
 
