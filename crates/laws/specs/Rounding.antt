@@ -50,17 +50,25 @@ pub remainder-unique : (a c q r : ℕ) → r < c → q * c + r ≡ a → a % c �
 remainder-unique a c q r rest whole =
     omega (arith, quotient-remainder a c, ap (λ (n : ℕ). n * c) (quotient-unique a c q r rest whole))
 
--- so what divides a number is its quotient and remainder
-pub division-is : (n c q r : ℕ) → Divides n c q r → record { quotient = q; remainder = r } ≡ division n c
-division-is n c q r d = ap₂ made (sym (quotient-unique n c q r (d .rest) (d .whole))) (sym (remainder-unique n c q r (d .rest) (d .whole)))
+-- two divisions with the same quotient and the same remainder
+pub same-parts : (d e : Division) → d .quotient ≡ e .quotient → d .remainder ≡ e .remainder → d ≡ e
+same-parts d e p q = ap₂ made p q
   where
     made : ℕ → ℕ → Division
     made a b = record { quotient = a; remainder = b }
 
--- what a division hands back: its quotient, and the remainder that goes with it
-pub quotient-of : (n c : ℕ) {d : Division} → d ≡ division n c → d .quotient ≡ n / c
-quotient-of n c e = ap (λ (d : Division). d .quotient) e
+-- so what divides a number is its quotient and remainder
+pub division-is : (n c q r : ℕ) → Divides n c q r → record { quotient = q; remainder = r } ≡ division n c
+division-is n c q r d = same-parts _ _ (sym (quotient-unique n c q r (d .rest) (d .whole))) (sym (remainder-unique n c q r (d .rest) (d .whole)))
 
+-- what a division hands back, for `ap`: its quotient and its remainder
+abbrev pub quotient : Division → ℕ
+quotient d = d .quotient
+
+abbrev pub remainder : Division → ℕ
+remainder d = d .remainder
+
+-- its quotient, with the remainder that goes with it
 pub drops : (n c : ℕ) {d : Division} → d ≡ division n c → 0 < c → Divides n c (d .quotient) (n % c)
 drops n c e pos = rw e (divides n c pos)
 

@@ -4,13 +4,15 @@
 // the new one comes back: no vector changes while it is read.
 ghost use mathlib.Core.Path.{_≡_};
 ghost use mathlib.Core.List.{List};
-ghost use Prim.Native.Nat.{ℕ, _*_, _-_, _/_, _≤_};
+ghost use Prim.Native.Nat.{ℕ, _+_, _*_, _-_, _≤_};
 ghost use lib.ListN.{getD};
+ghost use Rattle.definitions.specs.Division.{division};
 ghost use Rattle.definitions.specs.Chain.{arrays, padded};
-ghost use Rattle.definitions.specs.Vectors.{rowMean, rewardShare, mix, nextEntry, ONE};
+ghost use Rattle.definitions.specs.Vectors.{rowTotal, rewardShare, mixed, nextEntry, ONE};
 ghost use Rattle.laws.specs.ArrayLaws.{entryOf};
 ghost use Rattle.vectors.specs.Ready.{RowReady, MixReady, StepReady, Ticks, RewardsReady, Ready};
 ghost use Rattle.vectors.specs.Table.{blank, tableOf};
+use definitions::Division;
 use definitions::ONE;
 use definitions::Sizes;
 
@@ -20,36 +22,36 @@ fn wide(x: u32) -> u64
     x as u64
 }
 
-// V: the sum over j of c(i,j) * v(j), over E, down. It reads no reward.
-fn row_mean(sizes: Sizes, chain: &[u32], v: &[u64; 64], i: usize) -> u64
+// V: the sum over j of c(i,j) * v(j), by E. It reads no reward.
+pub fn row_mean(sizes: Sizes, chain: &[u32], v: &[u64; 64], i: usize) -> Division
     requires { ⌜ RowReady sizes (now chain) (now v) i ⌝ }
-    ensures { λ r. ⌜ ((f : List ℕ) → r ≡ rowMean (arrays sizes (now (chain .entry)) f) (entryOf (now (v .entry))) i) ⌝ }
+    ensures { λ d. ⌜ ((f : List ℕ) → d ≡ division (rowTotal (arrays sizes (now (chain .entry)) f) (entryOf (now (v .entry))) i) (sizes .rate)) ⌝ }
 {
     let states = sizes.states;
     let mut total = 0;
     for j in 0..states {
         total += wide(chain[i * states + j]) * v[j];
     }
-    total / sizes.rate
+    muldiv::divide(total, sizes.rate)
 }
 
-// W: f(i) * x over F, down.
-fn reward_share(reward: u64, x: u64, largest: u64) -> u64
+// W: f(i) * x by F.
+pub fn reward_share(reward: u64, x: u64, largest: u64) -> Division
     requires { ⌜ (reward ≤ 1000000) × (x ≤ ONE) × (1 ≤ largest) ⌝ }
-    ensures { λ w. ⌜ w ≡ reward * x / largest ⌝ }
+    ensures { λ d. ⌜ d ≡ division (reward * x) largest ⌝ }
 {
-    reward * x / largest
+    muldiv::divide(reward * x, largest)
 }
 
-// (n * V + r * W) over n + r, down.
-fn mix(n: u64, r: u64, v: u64, w: u64) -> u64
+// U: n * V + r * W by n + r.
+pub fn mix(n: u64, r: u64, v: u64, w: u64) -> Division
     requires { ⌜ MixReady n r v w ⌝ }
-    ensures { λ u. ⌜ u ≡ mix n r v w ⌝ }
+    ensures { λ d. ⌜ d ≡ division (mixed n r v w) (n + r) ⌝ }
 {
-    (n * v + r * w) / (n + r)
+    muldiv::divide(n * v + r * w, n + r)
 }
 
-// U(n,r) of U(n-1,r), before, and U(n,r-1), same: at the states, and 0 past them.
+// U(n,r) of U(n-1,r), before, and U(n,r-1), same: at the states, and 0 past them. The three remainders are dropped.
 pub fn step(
     sizes: Sizes,
     chain: &[u32],
@@ -67,7 +69,8 @@ pub fn step(
     for i in 0..states {
         let v = row_mean(sizes, chain, &before, i);
         let w = reward_share(rewards[i], same[i], sizes.largest);
-        next[i] = mix(n, r, v, w);
+        let u = mix(n, r, v.quotient, w.quotient);
+        next[i] = u.quotient;
     }
     next
 }
@@ -92,7 +95,8 @@ fn shares(sizes: Sizes, rewards: &[u64; 64], same: [u64; 64]) -> [u64; 64]
     let states = sizes.states;
     let mut next = [0u64; 64];
     for i in 0..states {
-        next[i] = reward_share(rewards[i], same[i], sizes.largest);
+        let w = reward_share(rewards[i], same[i], sizes.largest);
+        next[i] = w.quotient;
     }
     next
 }

@@ -2,7 +2,7 @@
 use Prim.Native.Nat.{_*_}
 use native.Mathlib.Omega.{arith}
 use Rattle.definitions.specs.Level.{BILLION}
-use Rattle.laws.specs.Rounding.{quotient-of, drops}
+use Rattle.laws.specs.Rounding.{quotient, drops}
 use Rattle.muldiv.specs.QuotientLaws.{scalable-part}
 use Rattle.poisson.proofs.allowance.Statement.{statement}
 use Rattle.poisson.proofs.allowance.Tie as tie
@@ -13,7 +13,7 @@ scaled-requires c κs = scalable-part (c .args .sum) (c .args .tolerance) BILLIO
 returns : tie.Need-returns
 returns c =
     let product = c .before .args .sum * c .before .args .tolerance in
-    (quotient-of product BILLION (c .scaled .ensures), drops product BILLION (c .scaled .ensures) (omega arith))
+    (ap quotient (c .scaled .ensures), drops product BILLION (c .scaled .ensures) (omega arith))
 
 pub allowance-spec : {M : Type 1} → statement M
 allowance-spec = tie.close (tie.spec scaled-requires returns)

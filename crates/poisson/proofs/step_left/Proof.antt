@@ -4,7 +4,7 @@ use Prim.Native.Nat.{ℕ, _+_, _*_, _-_, _/_, _≤_}
 use native.Mathlib.Omega.{arith}
 use native.Mathlib.Nat.{mul-assoc}
 use Rattle.definitions.specs.Weights.{MILLION, mode, weight}
-use Rattle.laws.specs.Rounding.{quotient-of, drops}
+use Rattle.laws.specs.Rounding.{quotient, drops}
 use Rattle.laws.specs.WeightLaws.{mode-low, weight-max, weight-left}
 use Rattle.muldiv.specs.QuotientLaws.{scalable-part}
 use Rattle.poisson.proofs.step_left.Statement.{statement}
@@ -26,7 +26,7 @@ returns c =
     let args = c .before .args in
     let given : args .w ≡ weight (args .x) (args .n) = c .before .pre .0 in
     let product : args .w * (args .n * MILLION) ≡ args .w * args .n * MILLION = omega arith in (
-      quotient-of (args .w * (args .n * MILLION)) (args .x) (c .scaled .ensures) ∙ ap (λ (w : ℕ). w * (args .n * MILLION) / args .x) given ∙ sym (weight-before (args .x) (args .n) (omega arith) (omega arith)),
+      ap quotient (c .scaled .ensures) ∙ ap (λ (w : ℕ). w * (args .n * MILLION) / args .x) given ∙ sym (weight-before (args .x) (args .n) (omega arith) (omega arith)),
       rw (← product) (drops (args .w * (args .n * MILLION)) (args .x) (c .scaled .ensures) (omega (arith, mode-low (args .x)))),
     )
 

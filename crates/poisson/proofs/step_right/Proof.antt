@@ -4,7 +4,7 @@ use Prim.Native.Nat.{ℕ, _+_, _*_, _/_}
 use native.Mathlib.Omega.{arith}
 use borrow.Author.Needs.{needs}
 use Rattle.definitions.specs.Weights.{MILLION, weight}
-use Rattle.laws.specs.Rounding.{quotient-of, drops}
+use Rattle.laws.specs.Rounding.{quotient, drops}
 use Rattle.laws.specs.WeightLaws.{mode-high, weight-max, weight-right}
 use Rattle.muldiv.specs.QuotientLaws.{scalable-part}
 use Rattle.poisson.proofs.step_right.Statement.{statement}
@@ -19,7 +19,7 @@ returns : tie.Need-returns
 returns c =
     let args = c .before .args in
     let given : args .w ≡ weight (args .x) (args .n) = c .before .pre .0 in (
-      quotient-of (args .w * args .x) ((args .n + 1) * MILLION) (c .scaled .ensures) ∙ ap (λ (w : ℕ). w * args .x / ((args .n + 1) * MILLION)) given ∙ sym (weight-right (args .x) (args .n) (omega arith)),
+      ap quotient (c .scaled .ensures) ∙ ap (λ (w : ℕ). w * args .x / ((args .n + 1) * MILLION)) given ∙ sym (weight-right (args .x) (args .n) (omega arith)),
       drops (args .w * args .x) ((args .n + 1) * MILLION) (c .scaled .ensures) (omega arith),
     )
 

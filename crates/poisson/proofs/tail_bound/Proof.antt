@@ -5,7 +5,7 @@ use native.Mathlib.Omega.{arith}
 use borrow.Author.Needs.{needs}
 use Rattle.definitions.specs.Division.{division}
 use Rattle.definitions.specs.Weights.{MILLION, mode}
-use Rattle.laws.specs.Rounding.{quotient-of, drops}
+use Rattle.laws.specs.Rounding.{quotient, drops}
 use Rattle.laws.specs.WeightLaws.{mode-low, weight-max}
 use Rattle.poisson.proofs.Search.{tail, tail-max, tail-scalable}
 use Rattle.poisson.proofs.tail_bound.Statement.{statement}
@@ -34,14 +34,14 @@ add-result : tie.Need-add-result
 add-result c =
     let args = start c .args in
     omega
-    (arith, quotient-of (dividend c) (divisor c) (divided c), tail-max (args .x) (args .n) (args .w + args .n - mode (args .x)) (omega arith) (omega arith), weight-max (args .x) (args .n))
+    (arith, ap quotient (divided c), tail-max (args .x) (args .n) (args .w + args .n - mode (args .x)) (omega arith) (omega arith), weight-max (args .x) (args .n))
 
 returns : tie.Need-returns
 returns c =
     let args = start c .args in
     let quotient = c .before .scaled .result .quotient in
     let less-1 : 1 + quotient - 1 ≡ quotient = omega arith in (
-      omega (arith, quotient-of (dividend c) (divisor c) (divided c), tail (args .x) (args .n) (args .w) (start c .pre .0)),
+      omega (arith, ap quotient (divided c), tail (args .x) (args .n) (args .w) (start c .pre .0)),
       rw less-1 (drops (dividend c) (divisor c) (divided c) (omega arith)),
     )
 

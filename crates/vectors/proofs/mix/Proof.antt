@@ -1,15 +1,14 @@
 -- `vectors::mix` meets its contract: n × V ≤ 1024 × ONE and r × W ≤ 8 × ONE. Assumes nothing.
-use mathlib.Core.Path.{refl}
+use mathlib.Core.Path.{ap}
 use native.Mathlib.Nat.{mul-le-mul}
 use native.Mathlib.Omega.{arith}
 use borrow.Author.Needs.{needs}
-use Rattle.definitions.specs.Vectors.{mix}
+use Rattle.laws.specs.Rounding.{quotient, remainder, same-parts}
 use Rattle.vectors.proofs.mix.Statement.{statement}
 use Rattle.vectors.proofs.mix.Tie as tie
 
 returns : tie.Need-returns
-unfolding mix
-returns c = refl
+returns c = same-parts _ _ (omega (arith, ap quotient (c .divide .ensures))) (omega (arith, ap remainder (c .divide .ensures)))
 
 pub mix-spec : {M : Type 1} → statement M
 mix-spec =

@@ -1,14 +1,13 @@
 -- `vectors::row_mean` meets its contract. The invariant: the total is the sum over the states passed. Assumes nothing.
 use mathlib.Core.Path.{_≡_, ap, _∙_}
 use mathlib.Core.List.{List}
-use Prim.Native.Nat.{ℕ, _+_, _*_, _-_, _/_, _≤_, _<_, _^_}
+use Prim.Native.Nat.{ℕ, _+_, _*_, _-_, _/_, _%_, _≤_, _<_, _^_}
 use denote.Ref.{now}
 use native.Mathlib.Omega.{arith}
 use lib.ListN.{getD}
 use Rattle.definitions.specs.Sums.{sum}
-use Rattle.definitions.specs.Vectors.{rowMean}
 use Rattle.laws.specs.SumLaws.{sum-zero, sum-more, sum-part}
-use Rattle.laws.specs.Rounding.{place-below}
+use Rattle.laws.specs.Rounding.{quotient, remainder, same-parts, place-below}
 use Rattle.laws.specs.ChainLaws.{square-max}
 use Rattle.vectors.proofs.row_mean.Statement.{statement}
 use Rattle.vectors.proofs.row_mean.Tie as tie
@@ -57,11 +56,13 @@ loop-again c =
     (omega (arith, added widened, sum-more (widened .before .before .before .loop .j) (row (begin widened))), omega arith)
 
 returns : tie.Need-returns Inv-loop μ-loop
-unfolding rowMean
 returns c = λ f.
     let begin = c .before .before .before .before in
+    let rate = begin .args .sizes .rate in
     let all : c .before .before .loop .j ≡ begin .args .sizes .states = omega arith in
-    omega (arith, ap (λ (n : ℕ). n / begin .args .sizes .rate) (c .before .before .loop .inv .0 ∙ ap (λ (n : ℕ). sum n (row begin)) all))
+    let whole = c .before .before .loop .inv .0 ∙ ap (λ (n : ℕ). sum n (row begin)) all in
+    same-parts _ _ (omega (arith, ap quotient (c .divide .ensures), ap (λ (n : ℕ). n / rate) whole))
+    (omega (arith, ap remainder (c .divide .ensures), ap (λ (n : ℕ). n % rate) whole))
 
 pub row-mean-spec : {M : Type 1} → statement M
 row-mean-spec =

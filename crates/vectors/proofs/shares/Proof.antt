@@ -1,6 +1,6 @@
 -- `vectors::shares` meets its contract. Assumes nothing.
 use mathlib.Core.List.{List}
-use mathlib.Core.Path.{_≡_, sym, _∙_}
+use mathlib.Core.Path.{_≡_, sym, ap, _∙_}
 use Prim.Native.Nat.{ℕ, _-_, _≤_}
 use native.Mathlib.Omega.{arith}
 use denote.Ref.{now}
@@ -8,6 +8,7 @@ use lib.ListN.{getD}
 use Rattle.definitions.specs.Sums.{over}
 use Rattle.definitions.specs.Chain.{arrays}
 use Rattle.definitions.specs.Vectors.{rewardShare}
+use Rattle.laws.specs.Rounding.{quotient}
 use Rattle.laws.specs.ListLaws.{over-none, over-store}
 use Rattle.laws.specs.ArrayLaws.{zeros, length-zeros, over-padded}
 use Rattle.vectors.proofs.shares.Statement.{statement}
@@ -39,7 +40,7 @@ unfolding rewardShare
 loop-again c =
     let start = c .before .before .before .before in
     let turn = c .before .before .before .loop in
-    (omega arith, λ c'. over-store (turn .i) (share start c') (zeros 64) (turn .next) (c .reward-share .result) (omega (arith, length-zeros 64)) (turn .inv .1 c') (c .reward-share .ensures))
+    (omega arith, λ c'. over-store (turn .i) (share start c') (zeros 64) (turn .next) (c .reward-share .result .quotient) (omega (arith, length-zeros 64)) (turn .inv .1 c') (ap quotient (c .reward-share .ensures)))
 
 returns : tie.Need-returns Inv-loop μ-loop
 returns c = λ c'.

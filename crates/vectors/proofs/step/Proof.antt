@@ -1,11 +1,12 @@
 -- `vectors::step` meets its contract. The invariant: the states passed have U(n,r). Assumes nothing.
-use mathlib.Core.Path.{_≡_, sym, _∙_, ap₂}
+use mathlib.Core.Path.{_≡_, sym, _∙_, ap, ap₂}
 use Prim.Native.Nat.{ℕ, _-_, _≤_}
 use native.Mathlib.Omega.{arith}
 use denote.Ref.{now}
 use Rattle.definitions.specs.Sums.{over}
 use Rattle.definitions.specs.Chain.{arrays}
-use Rattle.definitions.specs.Vectors.{rewardShare, mix, nextEntry}
+use Rattle.definitions.specs.Vectors.{rowMean, rewardShare, mix, nextEntry}
+use Rattle.laws.specs.Rounding.{quotient}
 use Rattle.laws.specs.ListLaws.{over-none, over-store}
 use Rattle.laws.specs.ArrayLaws.{entryOf, zeros, length-zeros, over-padded}
 use Rattle.vectors.specs.ReadyLaws.{row-ready, mix-ready}
@@ -39,22 +40,24 @@ reward-share-requires c κs =
     omega (arith, given .ready .rewards .reward i (omega arith), given .same-ticks .below i (omega arith))
 
 mix-requires : tie.Need-mix-requires Inv-loop μ-loop
-unfolding rewardShare
+unfolding rowMean rewardShare
 mix-requires c κs =
     let start = c .before .before .before .before .before .before .before in
     let mean = c .before .before .row-mean in
-    mix-ready (start .pre) (c .before .before .before .before .before .loop .i) (omega arith) (mean .result) (c .reward-share .result)
-    (mean .ensures (now (start .args .rewards))) (c .reward-share .ensures)
+    mix-ready (start .pre) (c .before .before .before .before .before .loop .i) (omega arith) (mean .result .quotient) (c .reward-share .result .quotient)
+    (ap quotient (mean .ensures (now (start .args .rewards)))) (ap quotient (c .reward-share .ensures))
 
 loop-again : tie.Need-loop-again Inv-loop μ-loop
-unfolding rewardShare nextEntry
+unfolding rowMean rewardShare mix nextEntry
 loop-again c =
     let start = c .before .before .before .before .before .before .before .before in
     let turn = c .before .before .before .before .before .before .loop in
-    let args = start .args in (
+    let args = start .args in
+    let mean = ap quotient (c .before .before .before .row-mean .ensures (now (args .rewards))) in
+    let share = ap quotient (c .before .reward-share .ensures) in (
       omega arith,
-      over-store (turn .i) (u start) (zeros 64) (turn .next) (c .mix .result) (omega (arith, length-zeros 64)) (turn .inv .1)
-          (c .mix .ensures ∙ ap₂ (mix (args .n) (args .r)) (c .before .before .before .row-mean .ensures (now (args .rewards))) (c .before .reward-share .ensures)),
+      over-store (turn .i) (u start) (zeros 64) (turn .next) (c .mix .result .quotient) (omega (arith, length-zeros 64)) (turn .inv .1)
+          (ap quotient (c .mix .ensures) ∙ ap₂ (mix (args .n) (args .r)) mean share),
     )
 
 returns : tie.Need-returns Inv-loop μ-loop
