@@ -13,7 +13,7 @@ use Rattle.definitions.specs.Weights.{mode, weight, weightSum}
 use Rattle.definitions.specs.Moment.{term, weighted, lastQuotient, weightedMean, moment, cellOf, cell, modelLevel, outcome}
 use Rattle.definitions.specs.Rules.{Answer, accepted, refused, rows, judgement}
 use Rattle.laws.specs.Rounding.{quotient-at-most, quotient-below, remainder-below, divides, row-of-place, place-in-row, place-below}
-use Rattle.laws.specs.Nearest.{nearest-within, nearest-at-most, nearest-rounds}
+use Rattle.laws.specs.Nearest.{nearest-within, nearest-at-most, nearest-up, nearest-down, nearest-rounds}
 use Rattle.laws.specs.SumLaws.{sum-mono}
 use Rattle.laws.specs.RuleLaws.{accepted-is-no-refusal, other-value}
 use Rattle.laws.specs.ListLaws.{getD-over}
@@ -67,7 +67,15 @@ pub last-max : (A S : ℕ) → 0 < S → A ≤ S → lastQuotient A S ≤ ONE
 unfolding lastQuotient
 last-max A S pos h = nearest-at-most (A * ONE) ONE S pos (omega (arith, h))
 
--- it rounds by the remainder of A × 10^12 by S
+-- by the remainder of A × 10^12 by S: one more than the quotient where twice the remainder reaches S
+pub last-up : (A S : ℕ) → 0 < S → S ≤ 2 * (A * ONE % S) → lastQuotient A S ≡ A * ONE / S + 1
+unfolding lastQuotient
+last-up A S pos h = nearest-up (A * ONE) S pos h
+
+pub last-down : (A S : ℕ) → 2 * (A * ONE % S) < S → lastQuotient A S ≡ A * ONE / S
+unfolding lastQuotient
+last-down A S h = nearest-down (A * ONE) S h
+
 pub last-rounds : (A S : ℕ) → 0 < S → Rounds (A * ONE) S (lastQuotient A S) (A * ONE % S)
 unfolding lastQuotient
 last-rounds A S pos = nearest-rounds (A * ONE) S pos

@@ -58,14 +58,17 @@ nearest-at-least-down a c pos = quotient-at-least (2 * a + c) (a / c) (2 * c) (o
 pub nearest-at-most-one-more : (a c : ℕ) → 0 < c → nearest a c ≤ a / c + 1
 nearest-at-most-one-more a c pos = nearest-at-most a (a / c + 1) c pos (omega (arith, quotient-high a c pos))
 
--- by the remainder: one more than the quotient rounded down where twice the remainder reaches the divisor
-pub nearest-by-remainder : (a c : ℕ) → 0 < c → nearest a c ≡ a / c + pick (leb c (2 * (a % c))) 1 0
-nearest-by-remainder a c pos = from (decLe c (2 * (a % c)))
-  where
-    from : Dec (c ≤ 2 * (a % c)) → nearest a c ≡ a / c + pick (leb c (2 * (a % c))) 1 0
-    from (yes l) = rw (le-leb c (2 * (a % c)) l) (nearest-is a c (a / c + 1) (omega (arith, quotient-remainder a c)) (omega (arith, quotient-remainder a c, remainder-below a c pos)))
-    from (no l) = rw (lt-leb c (2 * (a % c)) (omega (arith, l))) (nearest-is a c (a / c + 0) (omega (arith, quotient-remainder a c)) (omega (arith, l, quotient-remainder a c)))
+-- by the remainder: one more than the quotient where twice the remainder reaches the divisor, and the quotient where it does not
+pub nearest-up : (a c : ℕ) → 0 < c → c ≤ 2 * (a % c) → nearest a c ≡ a / c + 1
+nearest-up a c pos l = nearest-is a c (a / c + 1) (omega (arith, quotient-remainder a c)) (omega (arith, quotient-remainder a c, remainder-below a c pos))
+
+pub nearest-down : (a c : ℕ) → 2 * (a % c) < c → nearest a c ≡ a / c
+nearest-down a c l = nearest-is a c (a / c) (omega (arith, quotient-remainder a c)) (omega (arith, quotient-remainder a c))
 
 -- so the nearest number rounds the quotient by the remainder
 pub nearest-rounds : (a c : ℕ) → 0 < c → Rounds a c (nearest a c) (a % c)
-nearest-rounds a c pos = record { quotient = a / c; divides = divides a c pos; rounded = nearest-by-remainder a c pos }
+nearest-rounds a c pos = record { quotient = a / c; divides = divides a c pos; rounded = from (decLe c (2 * (a % c))) }
+  where
+    from : Dec (c ≤ 2 * (a % c)) → nearest a c ≡ a / c + pick (leb c (2 * (a % c))) 1 0
+    from (yes l) = rw (le-leb c (2 * (a % c)) l) (nearest-up a c pos l)
+    from (no l) = rw (lt-leb c (2 * (a % c)) (omega (arith, l))) (omega (arith, nearest-down a c (omega (arith, l))))

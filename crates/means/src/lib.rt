@@ -4,10 +4,12 @@
 // The sums A stand in the cells until they are divided. The weights of X number k are row k of what is lent, LEVELS
 // entries long.
 ghost use mathlib.Core.Path.{_≡_};
-ghost use Prim.Native.Nat.{max, _+_, _*_, _^_, _<_, _≤_};
+ghost use Prim.Native.Nat.{max, _+_, _*_, _%_, _^_, _<_, _≤_};
 ghost use lib.ListN.{length, getD};
 ghost use Rattle.definitions.specs.Sums.{over, blocks};
+ghost use Rattle.definitions.specs.Division.{Divides, Rounds};
 ghost use Rattle.definitions.specs.Chain.{arrays};
+ghost use Rattle.definitions.specs.Vectors.{ONE};
 ghost use Rattle.definitions.specs.Moment.{term, lastQuotient};
 ghost use Rattle.laws.specs.LevelLaws.{LEVELS};
 ghost use Rattle.means.specs.Running.{inTable, rowFrom, termAt, partSums, Topmost, Addable, AllAddable, Summable, Divisible, AllDivisible};
@@ -26,6 +28,15 @@ fn clear(count: usize, cells: &mut [u64])
     }
 }
 
+// A term of A, from w(n) and U(n,r) at a state: the remainder of their product by 10^12 is dropped.
+fn term(w: u64, u: u64) -> u64
+    requires { ⌜ (w ≤ 10 ^ 15) × (u ≤ ONE) ⌝ }
+    ensures { λ t. ⌜ (t ≡ term w u) × Divides (w * u) ONE t (w * u % ONE) ⌝ }
+{
+    let ticks = muldiv::over_trillion(w, u);
+    ticks.quotient
+}
+
 // The sums A of one X, which stand in the cells, with the terms of one n added: w is w(n), and row r of the
 // table is U(n,r). Cell k is that of state i and moment r.
 fn add_terms(sizes: Sizes, w: u64, table: &[[u64; 64]; 9], cells: &mut [u64])
@@ -37,7 +48,7 @@ fn add_terms(sizes: Sizes, w: u64, table: &[[u64; 64]; 9], cells: &mut [u64])
     let mut i = 0;
     let mut r = 1;
     for k in 0..count {
-        cells[k] += muldiv::over_trillion(w, table[r][i]);
+        cells[k] += term(w, table[r][i]);
         if r == highest {
             r = 1;
             i += 1;
@@ -112,14 +123,18 @@ fn accumulate(
     }
 }
 
-// The last quotient: A * 10^12 over S(N), to the nearest tick, a half going up. The half ticks are
-// rounded down; one half more, cut to whole ticks, is the nearest.
+// The last quotient: A * 10^12 by S(N), to the nearest tick. It rounds by the remainder: one more where twice that
+// reaches S(N).
 fn last_quotient(sum: u64, total: u64) -> u64
     requires { ⌜ (sum ≤ total) × (0 < total) × (total < 2 ^ 62) ⌝ }
-    ensures { λ r. ⌜ r ≡ lastQuotient sum total ⌝ }
+    ensures { λ p. ⌜ (p ≡ lastQuotient sum total) × Rounds (sum * ONE) total p (sum * ONE % total) ⌝ }
 {
-    let half_ticks = muldiv::scaled(sum, 2 * ONE, total);
-    (half_ticks + 1) / 2
+    let down = muldiv::scaled(sum, ONE, total);
+    if 2 * down.remainder >= total {
+        down.quotient + 1
+    } else {
+        down.quotient
+    }
 }
 
 // The moments in the place of the sums: the last quotient of each.

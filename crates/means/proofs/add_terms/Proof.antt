@@ -52,21 +52,20 @@ module _ (c : tie.In-loop Inv-loop μ-loop) where
       let turn = c .before .loop in
       cell-in-table (start .args .table .now) (turn .i) (turn .r) R (turn .k) (turn .inv .2) (turn .inv .3) (turn .inv .4)
 
-module _ (c : tie.After-over-trillion Inv-loop μ-loop) where
+module _ (c : tie.After-term Inv-loop μ-loop) where
   abbrev turn : tie.In-loop Inv-loop μ-loop
   turn = c .before .before
 
   -- what is added is the term of cell k
-  is-term : c .over-trillion .result ≡ term (start turn .args .w) (inTable (start turn .args .table .now) (R turn) (turn .before .loop .k))
-  unfolding term
-  is-term = omega (arith, c .over-trillion .ensures, ap (λ (u : ℕ). start turn .args .w * u / ONE) (entry turn))
+  is-term : c .term .result ≡ term (start turn .args .w) (inTable (start turn .args .table .now) (R turn) (turn .before .loop .k))
+  is-term = omega (arith, c .term .ensures .0, ap (term (start turn .args .w)) (entry turn))
 
   -- cell k still holds the sum that was handed over
   standing : getD (turn .before .loop .cells) (turn .before .loop .k) 0 ≡ getD (start turn .args .cells .now) (turn .before .loop .k) 0
   standing = ap (λ (l : List ℕ). getD l (turn .before .loop .k) 0) (turn .before .loop .inv .5) ∙ getD-over-past 0 (turn .before .loop .k) _ _ (turn .before .loop .k) (omega arith)
 
-over-trillion-requires : tie.Need-over-trillion-requires Inv-loop μ-loop
-over-trillion-requires c κs =
+term-requires : tie.Need-term-requires Inv-loop μ-loop
+term-requires c κs =
     (omega (arith, start (c .before) .pre .weight-max), omega (arith, entry (c .before), start (c .before) .pre .ticks-max (c .before .before .loop .k) (c .before .loop-test .taken)))
 
 add-cells : tie.Need-add-cells Inv-loop μ-loop
@@ -116,7 +115,7 @@ add-terms-spec =
     (λ c. omega (arith, in-table c))
     (λ c. omega (arith, in-table c))
     (λ c. omega (arith, in-table c))
-    over-trillion-requires
+    term-requires
     (λ c. omega arith)
     (λ c. omega arith)
     add-cells

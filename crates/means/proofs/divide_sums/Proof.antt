@@ -34,7 +34,7 @@ loop-again c =
     let turn = c .before .before in
     let k = turn .before .loop .k in (
       omega arith,
-      over-store k _ _ _ (c .last-quotient .result) (omega arith) (turn .before .loop .inv .1) (c .last-quotient .ensures ∙ ap (λ (a : ℕ). lastQuotient a (turn .before .before .before .args .total)) (standing turn)),
+      over-store k _ _ _ (c .last-quotient .result) (omega arith) (turn .before .loop .inv .1) (c .last-quotient .ensures .0 ∙ ap (λ (a : ℕ). lastQuotient a (turn .before .before .before .args .total)) (standing turn)),
       simp length-set (turn .before .loop .inv .2),
     )
 

@@ -1,4 +1,5 @@
 -- `poisson::allowance` meets its contract. Assumes nothing.
+use mathlib.Core.Path.{ap}
 use Prim.Native.Nat.{_*_}
 use native.Mathlib.Omega.{arith}
 use Rattle.definitions.specs.Level.{BILLION}

@@ -1,5 +1,5 @@
 -- `poisson::tail_bound` meets its contract. Assumes nothing.
-use mathlib.Core.Path.{_≡_}
+use mathlib.Core.Path.{_≡_, ap}
 use Prim.Native.Nat.{ℕ, _+_, _*_, _-_}
 use native.Mathlib.Omega.{arith}
 use borrow.Author.Needs.{needs}
@@ -39,8 +39,8 @@ add-result c =
 returns : tie.Need-returns
 returns c =
     let args = start c .args in
-    let quotient = c .before .scaled .result .quotient in
-    let less-1 : 1 + quotient - 1 ≡ quotient = omega arith in (
+    let past = c .before .scaled .result .quotient in
+    let less-1 : 1 + past - 1 ≡ past = omega arith in (
       omega (arith, ap quotient (divided c), tail (args .x) (args .n) (args .w) (start c .pre .0)),
       rw less-1 (drops (dividend c) (divisor c) (divided c) (omega arith)),
     )
