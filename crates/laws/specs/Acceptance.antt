@@ -16,6 +16,7 @@ use Rattle.definitions.specs.Rules.{accepted, Rows, framing, startsAtZero, quan
 use Rattle.definitions.specs.Series.{modelAt}
 use Rattle.laws.specs.SumLaws.{any-largest}
 use Rattle.laws.specs.RuleLaws.{andThen, in-parts, NoneHold, none-hold, accepted-value, none-in-parts}
+use Rattle.laws.specs.RowLaws.{with-a-time}
 use Rattle.laws.specs.ChainLaws.{rate-at, rate-pos, row-sums-to-rate, reward-le-largest}
 use Rattle.laws.specs.VectorLaws.{Stochastic}
 
@@ -159,12 +160,16 @@ judgement-in-parts s cells = in-parts (fileRows s) (room (blockSize s) cells) tt
 pub series-in-parts : (s times : List ℕ) (levels cells : ℕ) →
     seriesJudgement s times levels cells
     ≡ andThen (firstHeld (framing s ++ quantities (modelOf s) times) (uniformRate (modelOf s)))
-    (judgedBy (listing times ++ (jumps (uniformRate (modelOf s)) (lastTime times) ++ room (length times * blockSize s) cells) ++ room (length times) levels))
+    (judgedBy (listing times ++ jumps (uniformRate (modelOf s)) (lastTime times) ++ room (length times * blockSize s) cells ++ room (length times) levels))
 unfolding seriesJudgement seriesRows
 series-in-parts s times levels cells =
     let first : Rows = framing s ++ quantities (modelOf s) times in
-    let run : Rows = jumps (uniformRate (modelOf s)) (lastTime times) ++ room (length times * blockSize s) cells in
-    ap (λ (t : Rows). judgedBy t) (ap (λ (t : Rows). t ++ room (length times) levels) (append-assoc (first ++ listing times) (jumps (uniformRate (modelOf s)) (lastTime times)) (room (length times * blockSize s) cells) ∙ append-assoc first (listing times) run) ∙ append-assoc first (listing times ++ run) (room (length times) levels))
+    let X : Rows = jumps (uniformRate (modelOf s)) (lastTime times) in
+    let C : Rows = room (length times * blockSize s) cells in
+    let N : Rows = room (length times) levels in
+    ap (λ (t : Rows). judgedBy (t ++ C ++ N)) (append-assoc first (listing times) X)
+    ∙ ap (λ (t : Rows). judgedBy (t ++ N)) (append-assoc first (listing times ++ X) C)
+    ∙ ap (λ (t : Rows). judgedBy t) (append-assoc first (listing times ++ X ++ C) N)
     ∙ in-parts first _ (uniformRate (modelOf s)) tt
 
 -- rows 1 to 12: what acceptance tells
@@ -201,11 +206,10 @@ rises (suc n) times h k b =
       | no ne ↦ rises n times (both .0) k (omega arith)
     ]
 
-pub in-order : (n : ℕ) (times : List ℕ) → fallsUpTo n times ≡ false → (j k : ℕ) → j ≤ k → k ≤ n → getD times j 0 ≤ getD times k 0
-in-order n times h j zero low high = ap-le (omega arith)
-  where
-    ap-le : j ≡ 0 → getD times j 0 ≤ getD times 0 0
-    ap-le e = rw e (le-refl (getD times 0 0))
+in-order : (n : ℕ) (times : List ℕ) → fallsUpTo n times ≡ false → (j k : ℕ) → j ≤ k → k ≤ n → getD times j 0 ≤ getD times k 0
+in-order n times h j zero low high =
+    let first : j ≡ 0 = omega arith in
+    rw first (le-refl (getD times 0 0))
 in-order n times h j (suc k) low high =
     elim (ℕ-discrete j (suc k)) [
       | yes e ↦ rw e (le-refl (getD times (suc k) 0))
@@ -214,8 +218,7 @@ in-order n times h j (suc k) low high =
 
 -- row 8 of a list that has a time
 first-time : (times : List ℕ) → startsAtZero times ≡ false → 1 ≤ length times → 1 ≤ getD times 0 0
-first-time [] h some = absurd (omega arith)
-first-time (first ∷ later) h some = let nonzero : first ≡ 0 → ⊥ = eqb-false first 0 h in omega (arith, nonzero)
+first-time times h some = let nonzero : getD times 0 0 ≡ 0 → ⊥ = eqb-false (getD times 0 0) 0 (sym (with-a-time times some) ∙ h) in omega (arith, nonzero)
 
 -- what acceptance tells of a file and a list of times, lent with a number of level cells and of block cells
 pub record AcceptedSeries (s times : List ℕ) (levels cells : ℕ) : Type 0 where

@@ -7,6 +7,7 @@ pub mod BlockLaws
 pub mod ChainLaws
 pub mod ArrayLaws
 pub mod RuleLaws
+pub mod RowLaws
 pub mod VectorLaws
 pub mod Acceptance
 pub mod WeightLaws

@@ -11,7 +11,7 @@ ghost use lib.Dec.{eqb, ltb};
 ghost use lib.ListN.{length};
 ghost use Rattle.definitions.specs.File.{highestMoment};
 ghost use Rattle.definitions.specs.Chain.{modelOf, uniformRate};
-ghost use Rattle.definitions.specs.Rules.{framing, startsAtZero, quantities, fallsUpTo, listing, lastTime, tooManyJumps, jumps, room, blockSize, firstHeld, judgedBy, judgement, seriesJudgement, verdict};
+ghost use Rattle.definitions.specs.Rules.{framing, startsAtZero, quantities, fallsUpTo, listing, lastTime, tooManyJumps, jumps, room, blockSize, firstHeld, judgedBy, fileJudgement, judgement, seriesJudgement, verdict};
 ghost use Rattle.laws.specs.Acceptance.{Framed};
 ghost use Rattle.refusals.specs.Rated.{ratedAs};
 use definitions::Judgement;
@@ -131,14 +131,33 @@ pub fn too_many_jumps(rate: u64, time: u32) -> bool
     reader::jump_millionths(rate, time) > MOST_JUMPS
 }
 
-// Rows 12 and 13, for one time and a number of blocks: the jumps, and the room for the moments.
-fn judge_run(file: &[u8], rate: u64, time: u32, blocks: usize, cells: usize) -> Judgement
-    requires { ⌜ Framed (now file) × (highestMoment (now file) ≤ 8) × (rate < 2 ^ 32) × (blocks ≤ 8) ⌝ }
-    ensures { λ r. ⌜ verdict r ≡ judgedBy (jumps rate time ++ room (blocks * blockSize (now (file .entry))) cells) ⌝ }
+// Row 12, alone.
+fn judge_jumps(rate: u64, time: u32) -> Judgement
+    requires { ⌜ rate < 2 ^ 32 ⌝ }
+    ensures { λ r. ⌜ verdict r ≡ judgedBy (jumps rate time) ⌝ }
 {
     if too_many_jumps(rate, time) {
         return Judgement::Refused(12);
     }
+    Judgement::Accepted
+}
+
+// Rows 1 to 12, the last at the file's own time.
+pub fn judge_file(file: &[u8]) -> Judgement
+    ensures { λ r. ⌜ verdict r ≡ fileJudgement (now (file .entry)) ⌝ }
+{
+    let model = judge_model(file, &[]);
+    match model {
+        Rated::Refused(k) => Judgement::Refused(k),
+        Rated::Rate(rate) => judge_jumps(rate, reader::time(file)),
+    }
+}
+
+// Row 13, for a number of blocks: the room for their moments.
+fn judge_room(file: &[u8], blocks: usize, cells: usize) -> Judgement
+    requires { ⌜ Framed (now file) × (highestMoment (now file) ≤ 8) × (blocks ≤ 8) ⌝ }
+    ensures { λ r. ⌜ verdict r ≡ judgedBy (room (blocks * blockSize (now (file .entry))) cells) ⌝ }
+{
     let block = reader::state_count(file) * reader::highest_moment(file);
     if cells < blocks * block {
         return Judgement::Refused(13);
@@ -147,14 +166,14 @@ fn judge_run(file: &[u8], rate: u64, time: u32, blocks: usize, cells: usize) -> 
 }
 
 // The number of the first row that holds, for a file lent with so many answer cells; accepted where
-// none does. One block is asked for, at the file's own time.
+// none does. One block is asked for.
 pub fn judge(file: &[u8], cells: usize) -> Judgement
     ensures { λ r. ⌜ verdict r ≡ judgement (now (file .entry)) cells ⌝ }
 {
-    let model = judge_model(file, &[]);
-    match model {
-        Rated::Refused(k) => Judgement::Refused(k),
-        Rated::Rate(rate) => judge_run(file, rate, reader::time(file), 1, cells),
+    let alone = judge_file(file);
+    match alone {
+        Judgement::Refused(k) => Judgement::Refused(k),
+        Judgement::Accepted => judge_room(file, 1, cells),
     }
 }
 
@@ -174,7 +193,7 @@ fn falls(times: &[u32]) -> bool
 // and a level of each.
 fn judge_times(file: &[u8], rate: u64, times: &[u32], levels: usize, cells: usize) -> Judgement
     requires { ⌜ Framed (now file) × (highestMoment (now file) ≤ 8) × (rate < 2 ^ 32) ⌝ }
-    ensures { λ r. ⌜ verdict r ≡ judgedBy (listing (now (times .entry)) ++ (jumps rate (lastTime (now (times .entry))) ++ room (length (now (times .entry)) * blockSize (now (file .entry))) cells) ++ room (length (now (times .entry))) levels) ⌝ }
+    ensures { λ r. ⌜ verdict r ≡ judgedBy (listing (now (times .entry)) ++ jumps rate (lastTime (now (times .entry))) ++ room (length (now (times .entry)) * blockSize (now (file .entry))) cells ++ room (length (now (times .entry))) levels) ⌝ }
 {
     let count = times.len();
     if outside(count as u64, MOST_TIMES as u64) {
@@ -183,8 +202,11 @@ fn judge_times(file: &[u8], rate: u64, times: &[u32], levels: usize, cells: usiz
     if falls(times) {
         return Judgement::Refused(15);
     }
-    let run = judge_run(file, rate, times[count - 1], count, cells);
-    if let Judgement::Refused(k) = run {
+    if too_many_jumps(rate, times[count - 1]) {
+        return Judgement::Refused(12);
+    }
+    let room = judge_room(file, count, cells);
+    if let Judgement::Refused(k) = room {
         return Judgement::Refused(k);
     }
     if levels < count {

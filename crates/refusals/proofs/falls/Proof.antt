@@ -6,7 +6,7 @@ use native.Mathlib.Omega.{arith}
 use native.Mathlib.Nat.{add-sub-cancel}
 use lib.ListN.{length}
 use Rattle.definitions.specs.Rules.{fallsUpTo}
-use Rattle.refusals.specs.Times.{none-compared, rises-to, falls-at}
+use Rattle.laws.specs.RowLaws.{none-compared, rises-to, falls-at}
 use Rattle.refusals.proofs.falls.Statement.{statement}
 use Rattle.refusals.proofs.falls.Tie as tie
 

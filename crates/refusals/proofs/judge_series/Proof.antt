@@ -14,7 +14,7 @@ use Rattle.refusals.proofs.judge_series.Tie as tie
 
 -- the rows of the list, the jumps and the room
 abbrev listed : (s times : List ℕ) (E levels cells : ℕ) → Rows
-listed s times E levels cells = listing times ++ (jumps E (lastTime times) ++ room (length times * blockSize s) cells) ++ room (length times) levels
+listed s times E levels cells = listing times ++ jumps E (lastTime times) ++ room (length times * blockSize s) cells ++ room (length times) levels
 
 -- with equal numbers they answer the same
 same : {E' levels' cells' : ℕ} (s times : List ℕ) (E levels cells : ℕ) → E' ≡ E → levels' ≡ levels → cells' ≡ cells → judgedBy (listed s times E' levels' cells') ≡ judgedBy (listed s times E levels cells)

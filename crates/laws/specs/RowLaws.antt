@@ -1,4 +1,4 @@
--- The tests of a list of times: rows 8 and 15.
+-- Single rows of the tables, from the numbers that they compare: rows 8 and 15, of a list of times, and 12 and 13.
 use Prim.Native.Nat.{ℕ, zero, suc, _-_, _≤_, _<_}
 use native.Mathlib.Omega.{arith}
 use native.Mathlib.Decide.{decLe}
@@ -7,17 +7,18 @@ use mathlib.Core.Bool.{Bool, true, false, _||_, or-true}
 use mathlib.Core.List.{List, [], _∷_}
 use lib.Dec.{eqb, leb}
 use lib.ListN.{length, getD}
-use borrow.Author.Tests.{le-leb, lt-leb}
-use Rattle.definitions.specs.Rules.{startsAtZero, fallsUpTo}
+use borrow.Author.Tests.{le-leb, lt-leb, lt-ltb, le-ltb}
+use Rattle.definitions.specs.Rules.{accepted, refused, startsAtZero, fallsUpTo, jumps, room, judgedBy}
+use Rattle.laws.specs.RuleLaws.{row-stops, row-passes, none-left}
 
 -- row 8: a list without a time, and one with a first time
 pub without-a-time : (t : List ℕ) → length t ≡ 0 → startsAtZero t ≡ false
 without-a-time [] h = refl
 without-a-time (first ∷ later) h = absurd (omega arith)
 
-pub first-time : (t : List ℕ) → 0 < length t → startsAtZero t ≡ eqb (getD t 0 0) 0
-first-time [] h = absurd (omega arith)
-first-time (first ∷ later) h = refl
+pub with-a-time : (t : List ℕ) → 0 < length t → startsAtZero t ≡ eqb (getD t 0 0) 0
+with-a-time [] h = absurd (omega arith)
+with-a-time (first ∷ later) h = refl
 
 -- row 15: no time is compared yet
 pub none-compared : (t : List ℕ) → fallsUpTo 0 t ≡ false
@@ -44,3 +45,20 @@ falls-at t k (suc n) low high fallen =
           let same : suc n - 1 ≡ n = omega arith in
           ap (λ (b : Bool). fallsUpTo n t || b) (le-leb (getD t (suc n) 0) (getD t n 0) (rw (here, same) at fallen)) ∙ or-true (fallsUpTo n t)
     ]
+
+-- row 12: with equal numbers it answers the same
+pub same-jumps : {E' T' : ℕ} (E T : ℕ) → E' ≡ E → T' ≡ T → judgedBy (jumps E' T') ≡ judgedBy (jumps E T)
+same-jumps E T e t = rw (e, t) refl
+
+-- row 13: with equal numbers it answers the same
+pub same-room : {needed' lent' : ℕ} (needed lent : ℕ) → needed' ≡ needed → lent' ≡ lent → judgedBy (room needed' lent') ≡ judgedBy (room needed lent)
+same-room needed lent n l = rw (n, l) refl
+
+-- fewer lent than needed, and enough
+pub too-few : (needed lent : ℕ) → lent < needed → judgedBy (room needed lent) ≡ refused 13
+unfolding room
+too-few needed lent h = row-stops 13 _ _ _ (lt-ltb lent needed h)
+
+pub enough : (needed lent : ℕ) → needed ≤ lent → judgedBy (room needed lent) ≡ accepted tt
+unfolding room
+enough needed lent h = row-passes 13 _ _ _ (le-ltb lent needed h) ∙ none-left tt
