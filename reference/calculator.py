@@ -1,8 +1,8 @@
 #!/usr/bin/env python3
 """Reference calculator: moments of the accumulated reward of a repairable system.
 
-Written from document 01 and requests S-1 and S-3 of document 02 alone, in plain whole numbers,
-with the papers' letters. S-1 decides the last division; every other rounding is down.
+Written from document 01 and requests S-1, S-3 and S-4 of document 02 alone, in plain whole
+numbers, with the papers' letters. S-1 decides the last division; every other rounding is down.
 Reads a model file from standard input and prints its sheet:
 
     python3 reference/calculator.py < examples/B.model
@@ -25,10 +25,16 @@ LENT_CELLS = 512      # answer cells the program lends
 LEVEL_LIMIT = 1024    # the level is never above this
 MOST_TIMES = 8        # times that a list may have
 REFUSED = 1_000_000   # refusal k as the answer of a call: this and k
+GIVEN, NONE = 0, 1    # what the call `remainders` answers for a file without a refusal
 
 # M states, highest moment R, tolerance epsilon, time T, reward rates f with the largest F,
 # rows c of the uniformized chain with uniformization rate E, and X = E * T.
 Model = namedtuple("Model", "M R epsilon T f F c E X")
+
+# The worked table of a file: E and F, the level N, first[r] = U(0,r) at each state, and its lines. A line has n, r and
+# the state (counted from 1), and the three divisions of U(n,r) there, each a quotient and its rest.
+Worked = namedtuple("Worked", "E F N first lines")
+Line = namedtuple("Line", "n r state V rest_V W rest_W U rest_U")
 
 
 # --- The model file -------------------------------------------------------------------------
@@ -249,6 +255,50 @@ def series(file, times, levels, cells):
         cells[k * size:(k + 1) * size] = block
     return ("times", len(times))
 
+
+# --- What the divisions leave (S-4) --------------------------------------------------------------
+
+def divisions(model, U, n, r, i):
+    """The divisions of U(n,r) at state i (counted from 0 here), for n, r >= 1, from the vectors before it: quotient and
+    rest of V, of W and of U."""
+    V, rest_V = divmod(sum(map(mul, model.c[i], U[n - 1][r])), model.E)
+    W, rest_W = divmod(model.f[i] * U[n][r - 1][i], model.F)
+    return (V, rest_V, W, rest_W, *divmod(n * V + r * W, n + r))
+
+
+def rests(file, state, n, r):
+    """("refused", k) for a file that row k of 1 to 12 stops, whatever the numbers are; ("none", 1) where the state is
+    outside 1 to M, n outside 1 to N or r outside 1 to R; else ("given", the rests of V, W and U)."""
+    word, N = outcome(file, LENT_CELLS)        # enough cells for every file, so that 13 never holds
+    if word == "refused":
+        return (word, N)
+    model = read_model(file)
+    if not (1 <= state <= model.M and 1 <= n <= N and 1 <= r <= model.R):
+        return ("none", NONE)
+    return ("given", divisions(model, reward_vectors(model, n), n, r, state - 1)[1::2])
+
+
+def remainders(file, state, n, r, mean, share, mix):
+    """The answer of `rests` as that of a call: ("given", 0) where the three numbers, each a list of one, take the rests
+    of V, W and U."""
+    word, value = rests(file, state, n, r)
+    if word != "given":
+        return (word, value)
+    mean[0], share[0], mix[0] = value
+    return (word, GIVEN)
+
+
+def worked(file):
+    """The worked table of an accepted file: n by n from 1 to N, then r by r, then state by state."""
+    model = read_model(file)
+    N = level(model.X, model.epsilon)
+    U = reward_vectors(model, N)
+    lines = [Line(n, r, i + 1, *divisions(model, U, n, r, i))
+             for n in range(1, N + 1) for r in range(1, model.R + 1) for i in range(model.M)]
+    return Worked(model.E, model.F, N, U[0], lines)
+
+
+# --- The answer of a call ------------------------------------------------------------------------
 
 def answer(result):
     """The number that a call of the library answers for a result: 1,000,000 and k for refusal k."""

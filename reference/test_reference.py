@@ -1,6 +1,7 @@
 #!/usr/bin/env python3
 """Tests of the reference calculator: python3 reference/test_reference.py"""
 
+import itertools
 import math
 import os
 import random
@@ -566,6 +567,141 @@ class Series(unittest.TestCase):
         self.assertEqual(calculator.answer(("refused", 14)), 1_000_014)
         self.assertEqual(calculator.answer(("times", 8)), 8)
         self.assertEqual(calculator.answer(("level", 3)), 3)
+
+
+class Remainders(unittest.TestCase):
+    """S-4: what the divisions of V, W and U leave."""
+
+    # Two states: rows 0 3 and 1 2 of c, E = 3, F = 7.
+    SMALL = models.build(1, 2, 2, 100_000_000, 1, [7, 3], [[3], [1]])
+    OUTSIDE = (0, 9, 65, 1025, 2**32, 2**32 + 1, 2**63, 2**64 - 1)
+
+    def call(self, file, state, n, r):
+        """The result of a call, and the three numbers after it, which were 100, 200 and 300."""
+        numbers = [100], [200], [300]
+        result = calculator.remainders(file, state, n, r, *numbers)
+        return result, [value for number in numbers for value in number]
+
+    def given(self, file, state, n, r, *rests):
+        self.assertEqual(calculator.rests(file, state, n, r), ("given", rests))
+        self.assertEqual(self.call(file, state, n, r), (("given", 0), list(rests)))
+
+    def kept(self, result, file, state, n, r):
+        """Another result than "given", the three numbers as they were."""
+        self.assertEqual(calculator.rests(file, state, n, r), result, (file.hex(), state, n, r))
+        self.assertEqual(self.call(file, state, n, r), (result, [100, 200, 300]))
+
+    def test_B(self):
+        # At state 1 V is U(n-1,r) of state 2 and W is U(n,r-1); at state 2 V is U(n-1,r) of state 1 and W is 0.
+        # E and F leave nothing: c has whole rows of E, and F is 1.
+        table = calculator.worked(B)
+        self.assertEqual((table.E, table.F, table.N), (1_000_000, 1, 3))
+        self.assertEqual(table.first, [[ONE, ONE], [ONE, 0], [ONE, 0]])
+        self.assertEqual(table.lines, [
+            (1, 1, 1, 0, 0, ONE, 0, 500000000000, 0),
+            (1, 1, 2, ONE, 0, 0, 0, 500000000000, 0),
+            (1, 2, 1, 0, 0, 500000000000, 0, 333333333333, 1),                 # 2 * 500000000000 by 3
+            (1, 2, 2, ONE, 0, 0, 0, 333333333333, 1),                          # 1 * ONE by 3
+            (2, 1, 1, 500000000000, 0, ONE, 0, 666666666666, 2),               # 2 * ONE by 3
+            (2, 1, 2, 500000000000, 0, 0, 0, 333333333333, 1),
+            (2, 2, 1, 333333333333, 0, 666666666666, 0, 499999999999, 2),      # 1999999999998 by 4
+            (2, 2, 2, 333333333333, 0, 0, 0, 166666666666, 2),                 # 666666666666 by 4
+            (3, 1, 1, 333333333333, 0, ONE, 0, 499999999999, 3),               # 1999999999999 by 4
+            (3, 1, 2, 666666666666, 0, 0, 0, 499999999999, 2),                 # 1999999999998 by 4
+            (3, 2, 1, 166666666666, 0, 499999999999, 0, 299999999999, 1),      # 1499999999996 by 5
+            (3, 2, 2, 499999999999, 0, 0, 0, 299999999999, 2),                 # 1499999999997 by 5
+        ])
+
+    def test_small_divisors(self):
+        # U(0,1) at state 2 is 3 * ONE by 7, which leaves 3; U(0,2) there is 3 * 428571428571 by 7, which leaves 4.
+        table = calculator.worked(self.SMALL)
+        self.assertEqual((table.E, table.F, table.N), (3, 7, 1))
+        self.assertEqual(table.first, [[ONE, ONE], [ONE, 428571428571], [ONE, 183673469387]])
+        self.assertEqual(table.lines, [
+            # V: 3 * 428571428571 by 3. W: 7 * ONE by 7. U: 1428571428571 by 2.
+            (1, 1, 1, 428571428571, 0, ONE, 0, 714285714285, 1),
+            # V: ONE + 2 * 428571428571 by 3. W: 3 * ONE by 7. U: 1047619047618 by 2.
+            (1, 1, 2, 619047619047, 1, 428571428571, 3, 523809523809, 0),
+            # V: 3 * 183673469387 by 3. W: 7 * 714285714285 by 7. U: 183673469387 + 2 * 714285714285 by 3.
+            (1, 2, 1, 183673469387, 0, 714285714285, 0, 537414965985, 2),
+            # V: ONE + 2 * 183673469387 by 3. W: 3 * 523809523809 by 7. U: 455782312924 + 2 * 224489795918 by 3.
+            (1, 2, 2, 455782312924, 2, 224489795918, 1, 301587301586, 2),
+        ])
+        self.given(self.SMALL, 2, 1, 2, 2, 1, 2)
+        self.given(self.SMALL, 1, 1, 2, 0, 0, 2)
+
+    def test_E_is_no_power_of_ten(self):
+        # At state 2, with E = 48576 = 6 * 8096: V is 5 * ONE + 777777777777 by 6, which leaves 5, 8096 times.
+        file = models.build(1, 2, 1, 100_000_000, 1, [9, 7], [[48_576], [40_480]])
+        self.given(file, 2, 1, 1, 5 * 8096, 7, 1)
+
+    def test_A(self):
+        # All is 1: V and W are ONE, by E = 1 and F = 5, and U is 2 * ONE by 2.
+        self.assertEqual(calculator.worked(A), (1, 5, 1, [[ONE], [ONE]], [(1, 1, 1, ONE, 0, ONE, 0, ONE, 0)]))
+        self.given(A, 1, 1, 1, 0, 0, 0)
+
+    def test_limits(self):
+        self.given(B, 2, 3, 2, 0, 0, 2)
+        for numbers in ((0, 1, 1), (3, 1, 1), (1, 0, 1), (1, 4, 1), (1, 1, 0), (1, 1, 3), (3, 4, 3), (0, 0, 0)):
+            self.kept(("none", 1), B, *numbers)
+        for outside in self.OUTSIDE:
+            for numbers in ((outside, 1, 1), (1, outside, 1), (1, 1, outside), (outside,) * 3):
+                self.kept(("none", 1), B, *numbers)
+
+    def test_n_goes_to_the_level_of_the_own_time(self):
+        for T, N in ((1, 3), (2, 4), (256, 280)):
+            file = put(B, 9, 4, T)
+            self.assertEqual(calculator.rests(file, 1, N, 1)[0], "given")
+            self.kept(("none", 1), file, 1, N + 1, 1)
+
+    def test_refused_before_all_else(self):
+        for row, file in EXAMPLES.items():
+            self.kept(("refused", row), file, 1, 1, 1)
+            for outside in self.OUTSIDE:
+                self.kept(("refused", row), file, outside, outside, outside)
+                self.kept(("refused", row), file, 1, outside, 1)
+        self.assertEqual(calculator.answer(calculator.rests(EXAMPLES[12], 0, 0, 0)), 1_000_012)
+
+    def test_answers(self):
+        for numbers, number in (((1, 1, 1), 0), ((3, 1, 1), 1)):
+            self.assertEqual(calculator.answer(self.call(B, *numbers)[0]), number)
+
+    def small_models(self):
+        """(name, file) of generated models with few divisions, one with 64 states."""
+        large = models.build(**{**models.states_64(random.Random(4)), "R": 3})
+        for name, file in (*models.valid_models(4, 90), ("64 states", large)):
+            _, N = outcome(file, 512)
+            if file[3]**2 * file[4] * N <= 20_000:
+                yield name, file
+
+    def test_laws(self):
+        """Quotient times divisor and rest are the dividend, the rest is below the divisor, and U is that of the vectors."""
+        all_above_0 = 0
+        for name, file in self.small_models():
+            model, table = calculator.read_model(file), calculator.worked(file)
+            U = calculator.reward_vectors(model, table.N)
+            self.assertEqual((table.E, table.F, table.first), (model.E, model.F, U[0]))
+            self.assertEqual([line[:3] for line in table.lines], list(itertools.product(
+                range(1, table.N + 1), range(1, model.R + 1), range(1, model.M + 1))), name)
+            for line in table.lines:
+                n, r, i = line.n, line.r, line.state - 1
+                mean = sum(model.c[i][j] * U[n - 1][r][j] for j in range(model.M))
+                self.assertEqual(line.V * model.E + line.rest_V, mean, (name, line))
+                self.assertEqual(line.W * model.F + line.rest_W, model.f[i] * U[n][r - 1][i], (name, line))
+                self.assertEqual(line.U * (n + r) + line.rest_U, n * line.V + r * line.W, (name, line))
+                self.assertTrue(0 <= line.rest_V < model.E and 0 <= line.rest_W < model.F, (name, line))
+                self.assertTrue(0 <= line.rest_U < n + r, (name, line))
+                self.assertEqual(line.U, U[n][r][i], (name, line))
+                all_above_0 += min(line.rest_V, line.rest_W, line.rest_U) > 0
+        self.assertGreater(all_above_0, 100)
+
+    def test_rests_are_those_of_the_table(self):
+        rng = random.Random(4)
+        for name, file in self.small_models():
+            lines = calculator.worked(file).lines
+            for line in rng.sample(lines, min(len(lines), 5)):
+                self.assertEqual(calculator.rests(file, line.state, line.n, line.r),
+                                 ("given", (line.rest_V, line.rest_W, line.rest_U)), (name, line))
 
 
 class ExactAverage(unittest.TestCase):
