@@ -6,7 +6,7 @@
 Without --library, the library that the script build of this repository makes is called; PATH is a static library or a
 shared object (.so). Without CALL every call is compared. The answer and every element of every slice have to be equal,
 and nothing before or after a slice may change. It stops at the first input that differs. Exit status: 0 when all are
-equal, or no library can be linked on this machine, 1 when one differs or a row of a call's table is never reached, 2
+equal, or no library can be linked on this machine, 1 when one differs or a row or an end of a call is never reached, 2
 when the run itself is not possible.
 """
 
@@ -46,20 +46,21 @@ def options():
 
 
 def compare(linked, call, count, seed):
-    """0 when all inputs of a call are equal, 1 at the first that differs, or where a row is never reached."""
-    answers = []
-    for name, _, given in inputs.GENERATED[call](seed, count):
-        each = cases.case(name, call, given, inputs.outcome(calculator, call, given))
+    """0 when all inputs of a call are equal, 1 at the first that differs, or where a row or an end is never reached."""
+    all_reached = []
+    for done, (name, _, given) in enumerate(inputs.GENERATED[call](seed, count)):
+        result = inputs.outcome(calculator, call, given)
+        each = cases.case(name, call, given, result)
         wrong = cases.trouble(linked, each)
         if wrong:
             path = cases.save(each, os.path.join(library.FOLDER, f"difference-seed{seed}-{call}-{name}.txt"))
             print(f"{call} {name}: {wrong}")
-            print(f"input {len(answers) + 1} of {count} differs, seed {seed}; it is saved as {path}")
+            print(f"input {done + 1} of {count} differs, seed {seed}; it is saved as {path}")
             return 1
-        answers.append(each.answer)
-    counts = inputs.tally(call, answers)
-    print(f"compared {count} inputs of {call}, seed {seed}: all equal ({inputs.tally_words(counts)})", flush=True)
-    never = [str(row) for row, n in counts.items() if not n and count >= inputs.ENOUGH]
+        all_reached += inputs.reached(call, given, result)
+    counts = inputs.tally(call, all_reached)
+    print(f"compared {count} inputs of {call}, seed {seed}: all equal ({inputs.tally_words(call, counts)})", flush=True)
+    never = [str(each) for each, n in counts.items() if not n and count >= inputs.enough(call)]
     if never:
         print(f"{call}: never reached: {', '.join(never)}")
     return 1 if never else 0

@@ -1,15 +1,17 @@
 """Generated inputs of the library's calls, from a seed.
 
-calculate_inputs(seed, count)  files, valid and damaged, with counts of cells about the border of row 13
-series_inputs(seed, count)     files with lists of times, and counts of level and block cells
+calculate_inputs(seed, count)   files, valid and damaged, with counts of cells about the border of row 13
+series_inputs(seed, count)      files with lists of times, and counts of level and block cells
+remainders_inputs(seed, count)  files with a state, n and r: within their limits, at their ends, outside
 
 A third of the inputs is aimed at a row of the call's table, each row in its turn, and breaks some later rows as well; a
-third is accepted; the others are put together by chance.
+third is accepted, for remainders each aimed at an end of its numbers or models; the others are put together by chance.
 """
 
 import copy
 import random
 from collections import Counter, namedtuple
+from functools import partial
 
 import calculator
 import models
@@ -23,9 +25,10 @@ Input = namedtuple("Input", "name call given")
 ROWS = {
     "calculate": [*range(1, 14)],
     "series": [*range(1, 12), 14, 15, 12, 13],
+    "remainders": [*range(1, 13)],
 }
 CHEAP = 200_000     # multiplications of the vectors of one input
-ENOUGH = 45         # inputs from which on each row of a call's table is reached
+LARGEST = 2**64 - 1
 
 
 def outcome(program, call, given, other=False):
@@ -51,6 +54,10 @@ def longer_by_65536(rng):
     return models.build(**models.small_fields(rng)) + bytes(2**16)
 
 
+def any_accepted(rng):
+    return models.build(**rng.choice(models.SMALL_KINDS)(rng))
+
+
 def any_file(rng):
     """A file of chance: accepted, damaged, or of a length that only a call can be given."""
     kind = rng.random()
@@ -58,7 +65,7 @@ def any_file(rng):
         return longer_by_65536(rng)
     if kind < 0.5:
         return rng.choice(models.DAMAGE)[2](rng)
-    return models.build(**rng.choice(models.SMALL_KINDS)(rng))
+    return any_accepted(rng)
 
 
 def own_time(file):
@@ -92,6 +99,19 @@ def too_few(rng, enough):
 def at_least(rng, enough):
     """Enough: just, one more, or more."""
     return enough + rng.choice([0, 0, 1, rng.randint(2, 40)])
+
+
+# --- Rows ------------------------------------------------------------------------------------------
+
+def row_of(answer):
+    """The row that an answer tells, or 0 for an acceptance."""
+    return max(0, answer - calculator.REFUSED)
+
+
+def and_later(rng, call, row):
+    """A row, and up to three that come after it in the call's table; none comes after row 0, which is no row."""
+    later = ROWS[call][ROWS[call].index(row) + 1:] if row else []
+    return {row} | set(rng.sample(later, rng.randint(0, min(3, len(later)))))
 
 
 # --- Lists of times -----------------------------------------------------------------------------------
@@ -165,8 +185,7 @@ def aimed_series(rng, row):
     """An input that breaks this row and some that come after it; row 0: none."""
     if row == 0 and rng.random() < 0.3:
         return edge_series(rng)
-    later = ROWS["series"][ROWS["series"].index(row) + 1:] if row else []
-    rows = {row} | set(rng.sample(later, rng.randint(0, min(3, len(later)))))
+    rows = and_later(rng, "series", row)
     in_list = rows & {12, 14, 15} | ({8} & rows if rng.random() < 0.5 else set())
     in_file = rows & set(range(1, 12)) - in_list
     file = models.breaking(rng, base_fields(rng), in_file)
@@ -205,8 +224,7 @@ def large_series(rng):
 
 def aimed_calculate(rng, row):
     """An input that breaks this row and some that come after it; row 0: none."""
-    later = ROWS["calculate"][row:] if row else []
-    rows = {row} | set(rng.sample(later, rng.randint(0, min(3, len(later)))))
+    rows = and_later(rng, "calculate", row)
     file = models.breaking(rng, base_fields(rng), rows & set(range(1, 13)))
     enough = max(1, need(file))
     return dict(file=file, cells=(too_few if 13 in rows else at_least)(rng, enough))
@@ -217,27 +235,200 @@ def any_calculate(rng):
     return dict(file=file, cells=(too_few if rng.random() < 0.3 else at_least)(rng, max(1, need(file))))
 
 
+# --- Inputs of remainders -----------------------------------------------------------------------------
+
+NUMBERS = ("state", "n", "r")
+MOST = dict(state=64, n=calculator.LEVEL_LIMIT, r=8)     # no file has more
+
+# Where one of the numbers stands, by its limit.
+PLACES = {
+    "0": lambda limit: 0,
+    "1": lambda limit: 1,
+    "limit": lambda limit: limit,
+    "past-limit": lambda limit: limit + 1,
+    "past-32-bits": lambda limit: 2**32 + 1,             # within the limit in 32 bits
+    "largest": lambda limit: LARGEST,
+}
+
+
+def longer_states_64(rng):
+    """64 states with a level up to 4."""
+    return dict(models.states_64(rng), T=rng.randint(1, 2_000))
+
+
+def near_largest(rng):
+    """Rewards next to each other and E next to the largest: sums of V past 2^63, rests nearly everywhere."""
+    M = rng.randint(2, 6)
+    return models.fields_for(rng, M, 9_999_991, rng.randint(1, 25),
+                             rewards=[models.MAX_REWARD - rng.randint(0, 99) for _ in range(M)])
+
+
+# Models that are reached with an accepted input, and the kind that is drawn for each.
+MODELS = {
+    "rests-above-0": models.large_primes,
+    "absorbing-state": models.absorbing_states,
+    "no-rates": models.all_rates_zero,
+    "reward-0": models.reward_in_one_state,
+    "1-state": models.one_state,
+    "64-states": longer_states_64,
+}
+
+
+def limits(file):
+    """The limits of state, n and r: M, N and R; of a refused file those that no file passes."""
+    word, N = calculator.outcome(file, calculator.LENT_CELLS)
+    return MOST if word == "refused" else dict(state=file[3], n=N, r=file[4])
+
+
+def asked(file, **numbers):
+    """The input of a file with state, n and r."""
+    return dict(file=file, **numbers, mean=1, share=1, mix=1)
+
+
+def models_reached(file, i, rests):
+    """Which of MODELS an accepted file with state i (counted from 0 here) is, and the rests given there."""
+    model = calculator.read_model(file)
+    still = [model.c[k][k] == model.E for k in range(model.M)]     # no rate leads out of state k
+    holds = {
+        "rests-above-0": all(rests),
+        "absorbing-state": still[i] and not all(still),
+        "no-rates": model.M > 1 and all(still),
+        "reward-0": model.f[i] == 0,
+        "1-state": model.M == 1,
+        "64-states": model.M == 64,
+    }
+    return [name for name in MODELS if holds[name]]
+
+
+def remainders_ends(given, result):
+    """The ends that an input of remainders reaches: a number at a place has the others within their limits."""
+    answer, written = result
+    limit = limits(given["file"])
+    outside = {name for name in NUMBERS if not 1 <= given[name] <= limit[name]}
+    row = row_of(answer)
+    if row:
+        return [f"outside-row-{row:02d}"] if len(outside) == 3 else []
+    places = [f"{name}-{place}" for name in NUMBERS for place, at in PLACES.items()
+              if given[name] == at(limit[name]) and outside <= {name}]
+    if answer == calculator.NONE:
+        return ["none", *places, *(["outside"] if len(outside) == 3 else [])]
+    rests = [written[name][0] for name in ("mean", "share", "mix")]
+    return ["given", *places, *models_reached(given["file"], given["state"] - 1, rests)]
+
+
+def within(rng, limit):
+    return {name: rng.randint(1, limit[name]) for name in NUMBERS}
+
+
+def beyond(rng, limit):
+    """A number outside of 1 to a limit."""
+    return rng.choice([0, limit + 1, 2**32 + 1, LARGEST, rng.randint(limit + 1, LARGEST)])
+
+
+def all_beyond(rng, limit):
+    return {name: beyond(rng, limit[name]) for name in NUMBERS}
+
+
+def any_number(rng, limit):
+    """A number of chance: mostly within its limit, or at it, or outside, or within it in fewer bits."""
+    inside = rng.randint(1, limit)
+    return rng.choice([*[inside] * 6, limit, beyond(rng, limit), 2**rng.choice([8, 16, 31, 32, 63]) + inside])
+
+
+def refused_remainders(rng, row, outside):
+    """An input that breaks this row and some that come after it, with numbers that every file has, or none has."""
+    file = models.breaking(rng, base_fields(rng), and_later(rng, "remainders", row))
+    return asked(file, **(all_beyond(rng, MOST) if outside else dict.fromkeys(NUMBERS, 1)))
+
+
+def at_place(rng, name, place):
+    """An accepted file with one number at a place and the others within their limits; for n, files whose level is
+    decided by little as well."""
+    by_little = name == "n" and rng.random() < 0.5
+    file = models.build(**models.level_edge(rng)) if by_little else any_accepted(rng)
+    limit = limits(file)
+    return asked(file, **{**within(rng, limit), name: PLACES[place](limit[name])})
+
+
+def of_model(rng, model):
+    """An input that reaches one of MODELS: drawn until it does."""
+    while True:
+        file = models.build(**MODELS[model](rng))
+        given = asked(file, **within(rng, limits(file)))
+        if model in remainders_ends(given, outcome(calculator, "remainders", given)):
+            return given
+
+
+def outside_remainders(rng):
+    """An accepted file with all three numbers outside."""
+    file = any_accepted(rng)
+    return asked(file, **all_beyond(rng, limits(file)))
+
+
+def given_remainders(rng):
+    """An accepted file, mostly one that leaves rests nearly everywhere, with numbers within their limits."""
+    file = models.build(**rng.choice([near_largest, models.large_primes, rng.choice(models.SMALL_KINDS)])(rng))
+    return asked(file, **within(rng, limits(file)))
+
+
+def any_remainders(rng):
+    file = any_file(rng)
+    return asked(file, **{name: any_number(rng, limit) for name, limit in limits(file).items()})
+
+
 # --- A mix ---------------------------------------------------------------------------------------------
 
+def aims(call, aimed, by_chance):
+    """Inputs of each row, accepted ones, and inputs of chance."""
+    return ([(f"row-{row:02d}", partial(aimed, row=row)) for row in ROWS[call]],
+            [("accepted", partial(aimed, row=0))],
+            [("by-chance", by_chance)])
+
+
+# What the inputs of a call are aimed at, in three parts: (name, a function of rng).
+AIMS = {
+    "calculate": aims("calculate", aimed_calculate, any_calculate),
+    "series": aims("series", aimed_series, any_series),
+    "remainders": (
+        [(f"{word}row-{row:02d}", partial(refused_remainders, row=row, outside=bool(word)))
+         for word in ("", "outside-") for row in ROWS["remainders"]],
+        [*((f"{name}-{place}", partial(at_place, name=name, place=place)) for name in NUMBERS for place in PLACES),
+         *((model, partial(of_model, model=model)) for model in MODELS),
+         ("outside", outside_remainders)],
+        [("given", given_remainders), ("by-chance", any_remainders)]),
+}
+
+# What a run has to reach beside the rows of a call's table.
+ENDS = {
+    "calculate": [],
+    "series": [],
+    "remainders": ["none", *(name for part in AIMS["remainders"] for name, _ in part
+                             if name != "by-chance" and not name.startswith("row-"))],
+}
+
+
+def enough(call):
+    """How many inputs of a call meet all its aims: each of a part is met in its turn."""
+    return len(AIMS[call]) * max(map(len, AIMS[call]))
+
+
 def cost(given):
-    """About the work of the reference for an input: the multiplications of its vectors."""
+    """About the work of the reference for an input: the multiplications of its vectors, up to n where it has one."""
     file = given["file"]
     longest = longest_time(file)
     if calculator.refusal(file, calculator.LENT_CELLS) not in (0, 12):
         return 0
     T = max(given.get("times", [own_time(file)]), default=0)
     q = calculator.read_model(file).E * min(T, longest) // 10**6
-    return (q + 100) * file[3]**2 * file[4]
+    return min(q + 100, given.get("n", LARGEST)) * file[3]**2 * file[4]
 
 
-def mixed(call, seed, count, aimed, by_chance):
-    """Inputs aimed at a row, each in its turn, accepted ones, and inputs of chance, in turn."""
+def mixed(call, seed, count):
+    """Inputs of the three parts in turn, and of each part in its turn."""
     rng = random.Random(f"{call} {seed}")
     for index in range(count):
-        row = ROWS[call][index // 3 % len(ROWS[call])]
-        name, make = ((f"row-{row:02d}", lambda rng, row=row: aimed(rng, row)),
-                      ("accepted", lambda rng: aimed(rng, 0)),
-                      ("by-chance", by_chance))[index % 3]
+        part = AIMS[call][index % 3]
+        name, make = part[index // 3 % len(part)]
         given = make(rng)
         while cost(given) > CHEAP:
             given = make(rng)
@@ -245,34 +436,42 @@ def mixed(call, seed, count, aimed, by_chance):
 
 
 def calculate_inputs(seed, count):
-    return mixed("calculate", seed, count, aimed_calculate, any_calculate)
+    return mixed("calculate", seed, count)
 
 
 def series_inputs(seed, count):
     """Every 150th input has 64 states."""
-    for index, each in enumerate(mixed("series", seed, count, aimed_series, any_series)):
+    for index, each in enumerate(mixed("series", seed, count)):
         if index % 150 == 100:
             rng = random.Random(f"large {seed} {index}")
             each = Input(f"{index:05d}-64-states", "series", large_series(rng))
         yield each
 
 
-GENERATED = {"calculate": calculate_inputs, "series": series_inputs}
+def remainders_inputs(seed, count):
+    return mixed("remainders", seed, count)
 
 
-# --- How often each row is reached -------------------------------------------------------------------
-
-def row_of(answer):
-    """The row that an answer tells, or 0 for an acceptance."""
-    return max(0, answer - calculator.REFUSED)
+GENERATED = {"calculate": calculate_inputs, "series": series_inputs, "remainders": remainders_inputs}
 
 
-def tally(call, answers):
-    """{row: how often}, in the order of the call's table, accepted ones as row 0; rows never reached are 0."""
-    reached = Counter(map(row_of, answers))
-    return {row: reached[row] for row in [0, *ROWS[call]]}
+# --- How often each row and each end is reached ---------------------------------------------------------
+
+def reached(call, given, result):
+    """What an input with this result reaches: the row that its answer tells, or 0, and ends of its call."""
+    return [row_of(result[0]), *(remainders_ends(given, result) if call == "remainders" else [])]
 
 
-def tally_words(counts):
-    """The counts in a line, as: accepted 12; refused 1: 3, 2: 5."""
-    return f"accepted {counts[0]}; refused " + ", ".join(f"{row}: {n}" for row, n in counts.items() if row)
+def tally(call, all_reached):
+    """{row or end: how often}, rows in the order of the call's table, accepted ones as row 0, then ends; what is never
+    reached is 0."""
+    counts = Counter(all_reached)
+    return {each: counts[each] for each in [0, *ROWS[call], *ENDS[call]]}
+
+
+def tally_words(call, counts):
+    """The counts in a line, as: accepted 12; refused 1: 3, 2: 5; 39 ends, each at least 2 times."""
+    refused = ", ".join(f"{row}: {counts[row]}" for row in ROWS[call])
+    least = min((counts[end] for end in ENDS[call]), default=0)
+    ends = f"; {len(ENDS[call])} ends, each at least {least} times" if ENDS[call] else ""
+    return f"accepted {counts[0]}; refused {refused}{ends}"

@@ -1,7 +1,7 @@
 """The library's calls from Python, by ctypes.
 
-A call is a line of CALLS. Every slice is lent from the midst of a larger array: what stands before and after it, and
-all of a slice that the call only reads, has to stay as it was.
+A call is a line of CALLS. Every slice, and every number that is written, is lent from the midst of a larger array: what
+stands before and after it, and all of a slice that the call only reads, has to stay as it was.
 """
 
 import ctypes
@@ -29,7 +29,7 @@ Parameter = namedtuple("Parameter", "name type slice written")
 
 
 def parameters(text):
-    """A call's parameters: name:type for a number, name:type[] for a slice, name:type[]* for one that is written."""
+    """A call's parameters: name:type for a number, name:type[] for a slice, a * behind either that is written."""
     result = []
     for word in text.split():
         name, _, kind = word.partition(":")
@@ -38,10 +38,11 @@ def parameters(text):
 
 
 # The calls of include/kuldrepso.h without the kuldrepso_ of their names, their parameters in order. A slice is a
-# pointer and a count there. Each answers a u64.
+# pointer and a count there, a number that is written a pointer alone. Each answers a u64.
 CALLS = {
     "calculate": parameters("file:u8[] cells:u64[]*"),
     "series": parameters("file:u8[] times:u32[] levels:u64[]* cells:u64[]*"),
+    "remainders": parameters("file:u8[] state:u64 n:u64 r:u64 mean:u64* share:u64* mix:u64*"),
 }
 
 
@@ -95,7 +96,8 @@ def shared_object(static):
 # --- Calling --------------------------------------------------------------------------------------
 
 class Slice:
-    """A slice lent from the midst of a larger array; `before` is what the whole array holds beforehand."""
+    """A slice lent from the midst of a larger array; `before` is what the whole array holds beforehand. A number that
+    is written is a slice of one."""
 
     def __init__(self, parameter, given):
         contents = painted(given, parameter.type) if parameter.written else list(given)
@@ -130,14 +132,16 @@ class Library:
 
     def call(self, name, given):
         """The answer, what each written slice holds after the call, and a line for each thing changed that had to stay.
-        `given` has a number, the elements of a slice that is read, or the count of one that is written."""
+        `given` has a number, the elements of a slice that is read, or the count of what is written (of a number 1)."""
         function = getattr(self.calls, "kuldrepso_" + name)
         function.restype = ctypes.c_uint64
         slices, arguments = [], []
         for parameter in CALLS[name]:
-            if parameter.slice:
+            if parameter.slice or parameter.written:
                 slices.append(Slice(parameter, given[parameter.name]))
-                arguments += [slices[-1].start, ctypes.c_size_t(slices[-1].count)]
+                arguments.append(slices[-1].start)
+                if parameter.slice:
+                    arguments.append(ctypes.c_size_t(slices[-1].count))
             else:
                 arguments.append(TYPES[parameter.type](given[parameter.name]))
         answer = function(*arguments)

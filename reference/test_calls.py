@@ -8,6 +8,7 @@ import subprocess
 import sys
 import tempfile
 import unittest
+from collections import Counter
 from unittest import mock
 
 sys.dont_write_bytecode = True
@@ -18,10 +19,13 @@ import calculator  # noqa: E402
 import compare_calls  # noqa: E402
 import inputs  # noqa: E402
 import library  # noqa: E402
+import models  # noqa: E402
+import call_cases  # noqa: E402
 import call_mistakes  # noqa: E402
 import call_mutants  # noqa: E402
 import cases  # noqa: E402
 import run_calls  # noqa: E402
+from inputs import MOST, NUMBERS, asked, limits  # noqa: E402
 from library import GUARD, PAINT  # noqa: E402
 
 B = bytes.fromhex("001B01020205F5E100000000010000000100000000000F4240000F4240")
@@ -45,6 +49,19 @@ uint64_t kuldrepso_calculate(uint8_t *file, size_t file_length, uint64_t *cells,
     if (cell_count > 0) cells[0] = 10 * file_length + cell_count;
     return UINT64_C(0xFFFFFFFFFFFFFFFF) - file[0];
 }
+uint64_t kuldrepso_remainders(uint8_t *file, size_t file_length, uint64_t state, uint64_t n, uint64_t r,
+                              uint64_t *mean, uint64_t *share, uint64_t *mix) {
+    switch (file[0]) {
+    case 1: mean[1] = 7; break;
+    case 2: share[-1] = 7; break;
+    case 3: mix[9] = 7; break;
+    case 4: file[file_length] = 7; break;
+    }
+    *mean = state;
+    *share = n;
+    if (r != 0) *mix = r;
+    return 10 * file_length;
+}
 uint64_t kuldrepso_probe(uint32_t number, uint8_t *out, size_t out_count) {
     if (out_count > 1) out[0] = 200, out[1] = (uint8_t)number;
     return number + out_count;
@@ -57,41 +74,65 @@ def given_all(seed, count, call="series"):
     return [each.given for each in inputs.GENERATED[call](seed, count)]
 
 
-def answers(call, seed, count):
-    return [inputs.outcome(calculator, call, given)[0] for given in given_all(seed, count, call)]
+def reached(call, given):
+    return inputs.reached(call, given, inputs.outcome(calculator, call, given))
+
+
+def all_reached(call, seed, count):
+    return [each for given in given_all(seed, count, call) for each in reached(call, given)]
+
+
+def worked_line(given):
+    """The line of the worked table that an input asks for, worked out to its n."""
+    model = calculator.read_model(given["file"])
+    state, n, r = (given[name] for name in NUMBERS)
+    return calculator.Line(n, r, state, *calculator.divisions(
+        model, calculator.reward_vectors(model, n), n, r, state - 1))
 
 
 class Reference:
-    """A library that is the reference itself; `change` may change what a call gives."""
+    """A library that is the reference itself; `before` may change what a call is given, `after` what it gives."""
 
-    def __init__(self, change=lambda answer, written: (answer, written)):
-        self.change = change
+    def __init__(self, before=lambda given: given, after=lambda given, answer, written: (answer, written)):
+        self.before, self.after = before, after
 
     def call(self, name, given):
-        return (*self.change(*inputs.outcome(calculator, name, given)), [])
+        return (*self.after(given, *inputs.outcome(calculator, name, self.before(given))), [])
 
 
 class Inputs(unittest.TestCase):
 
-    def test_aimed_inputs_reach_their_row(self):
+    def test_aimed_inputs_reach_their_row_and_end(self):
         for call in library.CALLS:
             for name, _, given in inputs.GENERATED[call](2, 200):
-                row = inputs.row_of(inputs.outcome(calculator, call, given)[0])
-                if "-row-" in name:
-                    self.assertEqual(row, int(name[-2:]), name)
-                elif name.endswith("accepted"):
-                    self.assertEqual(row, 0, name)
+                found, aim = reached(call, given), name[6:]
+                if "row-" in aim:
+                    self.assertEqual(found[0], int(aim[-2:]), name)
+                elif aim != "by-chance":
+                    self.assertEqual(found[0], 0, name)
+                if aim in inputs.ENDS[call]:
+                    self.assertIn(aim, found, name)
 
-    def test_each_row_is_reached(self):
+    def test_each_row_and_end_is_reached(self):
         for call in library.CALLS:
-            self.assertGreater(min(inputs.tally(call, answers(call, 3, 300)).values()), 5, call)
+            found = all_reached(call, 3, 6 * inputs.enough(call))
+            self.assertGreater(min(inputs.tally(call, found).values()), 5, call)
+            self.assertLessEqual(set(found), {0, *inputs.ROWS[call], *inputs.ENDS[call]}, call)
             for seed in range(20, 22):
-                self.assertTrue(all(inputs.tally(call, answers(call, seed, inputs.ENOUGH)).values()), call)
+                self.assertTrue(all(inputs.tally(call, all_reached(call, seed, inputs.enough(call))).values()), call)
 
     def test_rows_are_those_of_the_papers(self):
         self.assertEqual(inputs.ROWS["calculate"], list(range(1, 14)))
         self.assertEqual(inputs.ROWS["series"], [1, 2, 3, 4, 5, 6, 7, 8, 9, 10, 11, 14, 15, 12, 13])
-        self.assertGreaterEqual(inputs.ENOUGH, 3 * max(map(len, inputs.ROWS.values())))
+        self.assertEqual(inputs.ROWS["remainders"], list(range(1, 13)))
+        for call, rows in inputs.ROWS.items():
+            self.assertGreaterEqual(inputs.enough(call), 3 * len(rows))
+
+    def test_tally_words(self):
+        for call, ends in (("calculate", ""), ("remainders", "; 39 ends, each at least 1 times")):
+            counts = inputs.tally(call, [0, *inputs.ROWS[call], *inputs.ENDS[call], 2, 2])
+            words = ", ".join(f"{row}: {3 if row == 2 else 1}" for row in inputs.ROWS[call])
+            self.assertEqual(inputs.tally_words(call, counts), f"accepted 1; refused {words}{ends}")
 
     def test_same_seed_same_inputs(self):
         for call in library.CALLS:
@@ -136,6 +177,61 @@ class Inputs(unittest.TestCase):
             self.assertGreater(max(off), 5, name)
 
 
+class RemaindersInputs(unittest.TestCase):
+
+    def ends(self, file, state, n, r):
+        """The ends that an input reaches, without those of its model."""
+        found = reached("remainders", asked(file, state=state, n=n, r=r))
+        return [each for each in found if each not in inputs.MODELS]
+
+    def test_ends(self):
+        # File B: two states, level 3, two moments.
+        self.assertEqual(self.ends(B, 1, 2, 1), [0, "given", "state-1", "r-1"])
+        self.assertEqual(self.ends(B, 2, 3, 2), [0, "given", "state-limit", "n-limit", "r-limit"])
+        for place, number in (("0", 0), ("past-32-bits", 2**32 + 1), ("largest", 2**64 - 1)):
+            self.assertEqual(self.ends(B, number, 2, 2), [0, "none", f"state-{place}"])
+            self.assertEqual(self.ends(B, 2, number, 2), [0, "none", f"n-{place}"])
+            self.assertEqual(self.ends(B, 2, 2, number), [0, "none", f"r-{place}"])
+        self.assertEqual(self.ends(B, 3, 2, 2), [0, "none", "state-past-limit"])
+        self.assertEqual(self.ends(B, 2, 4, 2), [0, "none", "n-past-limit"])
+        self.assertEqual(self.ends(B, 2, 2, 3), [0, "none", "r-past-limit"])
+        self.assertEqual(self.ends(B, 0, 4, 2), [0, "none"])
+        self.assertEqual(self.ends(B, 0, 4, 3), [0, "none", "outside"])
+        self.assertEqual(self.ends(b"", 64, 0, 0), [1])
+        self.assertEqual(self.ends(b"", 65, 1025, 9), [1, "outside-row-01"])
+        self.assertEqual(len(set(inputs.ENDS["remainders"])), 2 + 1 + 12 + 18 + 6)
+
+    def test_models(self):
+        for M, rewards, rates, state, found in (
+                (1, [5], [[]], 1, {"1-state"}),
+                (2, [5, 0], [[0], [0]], 2, {"no-rates", "reward-0"}),
+                (2, [5, 5], [[0], [3]], 1, {"absorbing-state"}),
+                (2, [5, 5], [[0], [3]], 2, set()),
+                (64, [5] * 64, [[1] * 63] * 64, 1, {"64-states"})):
+            file = models.build(1, M, 1, 100_000_000, 1, rewards, rates)
+            given = asked(file, state=state, n=1, r=1)
+            self.assertEqual(set(reached("remainders", given)) & set(inputs.MODELS), found)
+        small = models.build(1, 2, 2, 100_000_000, 1, [7, 3], [[3], [1]])
+        self.assertIn("rests-above-0", reached("remainders", asked(small, state=2, n=1, r=2)))
+        self.assertNotIn("rests-above-0", reached("remainders", asked(small, state=2, n=1, r=1)))
+
+    def test_numbers(self):
+        """Numbers outside that are within their limits in 8, 16 or 32 bits; n past 100; sums of V past 2^63."""
+        found = Counter()
+        for given in given_all(1, 600, "remainders"):
+            file, numbers = given["file"], [given[name] for name in NUMBERS]
+            word = calculator.rests(file, *numbers)[0]
+            if word == "none":
+                for bits in (8, 16, 32):
+                    low = (number % 2**bits for number in numbers)
+                    found[bits] += all(1 <= number <= limit for number, limit in zip(low, limits(file).values()))
+            elif word == "given":
+                line = worked_line(given)
+                found["far"] += line.n > 100
+                found["large"] += line.V * calculator.read_model(file).E + line.rest_V >= 2**63
+        self.assertGreater(min(found[word] for word in (8, 16, 32, "far", "large")), 5, found)
+
+
 class Cases(unittest.TestCase):
 
     def test_there_and_back(self):
@@ -168,15 +264,22 @@ class Cases(unittest.TestCase):
             "cells 718750000000 612500000000 281250000000 175000000000\n"
             "\nname none\ncall series\nfile\ntimes\nlevels_lent 2\ncells_lent 5\nanswer 1000001\n"))
 
+    def test_text_of_numbers_that_are_written(self):
+        given = asked(B, state=1, n=3, r=1)
+        made = cases.case("B", "remainders", given, inputs.outcome(calculator, "remainders", given))
+        self.assertEqual(cases.text([made]), (
+            "name B\ncall remainders\nfile 001B01020205F5E100000000010000000100000000000F4240000F4240\n"
+            "state 1\nn 3\nr 1\nmean_lent 1\nshare_lent 1\nmix_lent 1\nanswer 0\nmean 0\nshare 0\nmix 3\n"))
+
 
 class Kit(unittest.TestCase):
     """The stored calls of conformance/calls, and the wrong calls that they have to catch."""
 
     def test_every_row_is_stored(self):
-        for call, rows in inputs.ROWS.items():
-            answers_stored = [each.answer for each in run_calls.stored() if each.call == call]
-            self.assertGreater(min(inputs.tally(call, answers_stored).values()), 1, call)
-            self.assertEqual(set(map(inputs.row_of, answers_stored)), {0, *rows})
+        for call in call_cases.GROUPS:
+            rows = Counter(inputs.row_of(each.answer) for each in run_calls.stored() if each.call == call)
+            self.assertEqual(set(rows), {0, *inputs.ROWS[call]}, call)
+            self.assertGreater(min(rows.values()), 1, call)
 
     def test_form(self):
         for name in os.listdir(run_calls.CALLS):
@@ -195,44 +298,118 @@ class Kit(unittest.TestCase):
             self.assertEqual("caught by none: fewer than two" in said.getvalue(), not enough)
 
 
+# --- Wrong calls of remainders ---------------------------------------------------------------------------
+
+def moved(change):
+    """The reference with state, n and r changed before the call, by a function of them and of their limits."""
+    return Reference(before=lambda given: {**given, **change(
+        {name: given[name] for name in NUMBERS}, limits(given["file"]))})
+
+
+def given_otherwise(change):
+    """The reference with other rests where they are given, by a function of the worked line and of the input."""
+    def after(given, answer, written):
+        if answer == calculator.GIVEN:
+            written.update(change(worked_line(given), given))
+        return answer, written
+    return Reference(after=after)
+
+
+def low_bits(*names):
+    return moved(lambda numbers, limit: {name: numbers[name] % 2**32 for name in names})
+
+
+def from_to(name, place, other):
+    """A number at a place taken for one at another."""
+    at, to = inputs.PLACES[place], inputs.PLACES[other]
+    return moved(lambda numbers, limit: {name: to(limit[name])} if numbers[name] == at(limit[name]) else {})
+
+
+def none_first(name):
+    """None answered before a file's refusal where this number is outside for every file."""
+    return Reference(after=lambda given, answer, written: (
+        answer if 1 <= given[name] <= MOST[name] else calculator.NONE, written))
+
+
+def written_when(word, holds):
+    """A number written where it has to stay."""
+    return Reference(after=lambda given, answer, written: (
+        answer, {**written, word: [0]} if holds(answer) else written))
+
+
+def share_of_the_n_before(line, given):
+    """The rest of W from U(n-1,r-1)."""
+    model = calculator.read_model(given["file"])
+    U = calculator.reward_vectors(model, line.n - 1)
+    return {"share": [model.f[line.state - 1] * U[line.n - 1][line.r - 1][line.state - 1] % model.F]}
+
+
+WRONG_REMAINDERS = {
+    "rest of U by n": given_otherwise(lambda line, given: {"mix": [(line.n * line.V + line.r * line.W) % line.n]}),
+    "W from U(n-1,r-1)": given_otherwise(share_of_the_n_before),
+    "rest of V for that of W": given_otherwise(lambda line, given: {"share": [line.rest_V]}),
+    "rests of V and U exchanged": given_otherwise(lambda line, given: {"mean": [line.rest_U], "mix": [line.rest_V]}),
+    "low 32 bits": low_bits(*NUMBERS),
+    **{f"low 32 bits of {name}": low_bits(name) for name in NUMBERS},
+    **{f"none at the limit of {name}": from_to(name, "limit", "0") for name in NUMBERS},
+    **{f"given past the limit of {name}": from_to(name, "past-limit", "limit") for name in NUMBERS},
+    **{f"given at {name} 0": from_to(name, "0", "1") for name in NUMBERS},
+    **{f"given at the largest {name}": from_to(name, "largest", "1") for name in NUMBERS},
+    **{f"none by {name} before a refusal": none_first(name) for name in NUMBERS},
+    **{f"{word} written on none": written_when(word, lambda answer: answer == calculator.NONE)
+       for word in ("mean", "share", "mix")},
+    **{f"{word} written on refusal {row}": written_when(word, lambda answer, row=row: inputs.row_of(answer) == row)
+       for word, row in (("mean", 1), ("share", 6), ("mix", 12))},
+}
+
+
 class Comparison(unittest.TestCase):
 
-    def compare(self, linked, count=50, draw=inputs.series_inputs):
+    def compare(self, linked, call="series", count=50, draw=None):
         """The status of a comparison, and what it prints; files go to a folder of their own."""
         with tempfile.TemporaryDirectory() as folder, contextlib.redirect_stdout(io.StringIO()) as said:
             with mock.patch.multiple(library, FOLDER=folder, UNDER_WAY=os.path.join(folder, "under-way")):
-                with mock.patch.dict(inputs.GENERATED, series=draw):
-                    status = compare_calls.compare(linked, "series", count, 7)
+                with mock.patch.dict(inputs.GENERATED, {call: draw or inputs.GENERATED[call]}):
+                    status = compare_calls.compare(linked, call, count, 7)
                 saved = [name for name in os.listdir(folder) if name.startswith("difference")]
         return status, said.getvalue(), saved
 
     def test_equal(self):
-        status, said, saved = self.compare(Reference())
-        self.assertEqual((status, saved), (0, []))
-        self.assertRegex(said, r"\Acompared 50 inputs of series, seed 7: all equal "
-                               r"\(accepted \d+; refused 1: \d+, .*\)\n\Z")
+        for call, ends in (("series", ""), ("remainders", r"; 39 ends, each at least \d+ times")):
+            status, said, saved = self.compare(Reference(), call, 75)
+            self.assertEqual((status, saved), (0, []))
+            self.assertRegex(said, rf"\Acompared 75 inputs of {call}, seed 7: all equal "
+                                   rf"\(accepted \d+; refused 1: \d+, .*\d{ends}\)\n\Z")
 
     def test_different(self):
-        def one_more(answer, written):
+        def one_more(given, answer, written):
             if answer < calculator.REFUSED:
                 written["levels"][answer - 1] += 1
             return answer, written
 
-        status, said, saved = self.compare(Reference(one_more))
+        status, said, saved = self.compare(Reference(after=one_more))
         self.assertEqual((status, len(saved)), (1, 1))
         self.assertRegex(said, r"\Aseries 00001-accepted: levels\[\d\]: expected \d+, got \d+\n"
                                r"input 2 of 50 differs, seed 7; it is saved as .*seed7-series-00001-accepted.txt\n\Z")
 
-    def test_a_row_never_reached_is_told(self):
-        for row in (0, 14):
-            def without(seed, count, row=row):
-                drawn = inputs.series_inputs(seed, 3 * count)
-                kept = (each for each in drawn if inputs.row_of(inputs.outcome(calculator, *each[1:])[0]) != row)
+    def test_wrong_remainders(self):
+        for word, linked in WRONG_REMAINDERS.items():
+            status, said, saved = self.compare(linked, "remainders", 2 * inputs.enough("remainders"))
+            self.assertEqual((status, len(saved)), (1, 1), word)
+            self.assertRegex(said, r"\Aremainders \d{5}-.*: .*expected \d+.*, got \d+\n", word)
+
+    def test_what_is_never_reached_is_told(self):
+        for call, missing in (("series", 0), ("series", 14), ("remainders", "n-largest"),
+                              ("remainders", "r-past-limit"), ("remainders", "64-states"),
+                              ("remainders", "outside-row-12")):
+            def without(seed, count, call=call, missing=missing):
+                drawn = inputs.mixed(call, seed, 3 * count)
+                kept = (each for each in drawn if missing not in reached(call, each.given))
                 return [each for each, _ in zip(kept, range(count))]
 
-            status, said, _ = self.compare(Reference(), 60, without)
+            status, said, _ = self.compare(Reference(), call, inputs.enough(call), without)
             self.assertEqual(status, 1)
-            self.assertTrue(said.endswith(f"series: never reached: {row}\n"), said)
+            self.assertTrue(said.endswith(f"{call}: never reached: {missing}\n"), said)
 
     def test_difference(self):
         was = library.painted(3)
@@ -278,6 +455,16 @@ class Library(unittest.TestCase):
         self.assertEqual(len(self.call(6, 0)[2]), 1)
         self.assertEqual(GUARD, 9)
 
+    def test_numbers_that_are_written(self):
+        for kind, r, words in ((0, 5, []),
+                               (0, 0, []),
+                               (1, 5, [f"mean[1], outside of its 1, was {PAINT + 1} and is 7"]),
+                               (2, 5, [f"share[-1], outside of its 1, was {PAINT - 1} and is 7"]),
+                               (3, 5, [f"mix[9], outside of its 1, was {PAINT + 9} and is 7"]),
+                               (4, 5, ["file[3], outside of its 3, was 3 and is 7"])):
+            got = self.linked.call("remainders", asked(bytes([kind, 2, 3]), state=2**64 - 1, n=2**32 + 1, r=r))
+            self.assertEqual(got, (30, {"mean": [2**64 - 1], "share": [2**32 + 1], "mix": [r or PAINT]}, words))
+
     def test_numbers_and_bytes(self):
         with mock.patch.dict(library.CALLS, PROBE):
             got = self.linked.call("probe", dict(number=9, out=4))
@@ -297,6 +484,9 @@ class Library(unittest.TestCase):
         result = self.run_program("--library", self.object, "--count", "3", "series")
         self.assertEqual((result.returncode, result.stdout), (2, ""))
         self.assertEqual(result.stderr, "compare_calls.py: the library has no call kuldrepso_series\n")
+        result = self.run_program("--library", self.object, "--count", "3", "remainders")
+        self.assertEqual((result.returncode, result.stderr), (1, ""))
+        self.assertRegex(result.stdout, r"\nremainders 00000-row-01: answer: expected 1000001, got \d+\n")
         for arguments in (["--count", "0"], ["--seed", "1", "--fresh"], ["no-such-call"], ["--library", "no-such.a"]):
             result = self.run_program(*arguments)
             self.assertEqual((result.returncode, result.stdout, result.stderr.count("\n")), (2, "", 1))

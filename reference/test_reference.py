@@ -675,7 +675,7 @@ class Remainders(unittest.TestCase):
                 yield name, file
 
     def test_laws(self):
-        """Quotient times divisor and rest are the dividend, the rest is below the divisor, and U is that of the vectors."""
+        """Quotient times divisor and rest are the dividend, the rest is below the divisor, U is that of the vectors."""
         all_above_0 = 0
         for name, file in self.small_models():
             model, table = calculator.read_model(file), calculator.worked(file)
