@@ -2,14 +2,13 @@
 use Prim.Native.Nat.{ℕ, _+_, _-_, _%_}
 use mathlib.Core.List.{List}
 use mathlib.Core.Bool.{Bool, _||_}
-use lib.Dec.{eqb, ltb}
 use Rattle.definitions.specs.declared.Rests.{Rests}
 use Rattle.definitions.specs.declared.Remainders.{Remainders}
 use Rattle.definitions.specs.declared.Remainders.the-variants as answered
 use Rattle.definitions.specs.Sums.{pick}
 use Rattle.definitions.specs.Division.{Divides}
 use Rattle.definitions.specs.Chain.{Model, modelOf, Chain, chainOf}
-use Rattle.definitions.specs.Rules.{Answer, accepted, refused, fileRows, firstHeld}
+use Rattle.definitions.specs.Rules.{Answer, accepted, refused, outside, fileRows, firstHeld}
 use Rattle.definitions.specs.Vectors.{rowTotal, rowMean, rewarded, rewardShare, mixed, U}
 use Rattle.definitions.specs.Moment.{modelLevel}
 
@@ -40,19 +39,18 @@ restsAt ch n r i =
       mix = mixDividend ch n r i % (n + r);
     }
 
--- a number that is not from 1 to most
-abbrev pub outside : ℕ → ℕ → Bool
-outside x most = eqb x 0 || ltb most x
-
 -- what is given of something that need not be there
 pub data Maybe (A : Type 0) : Type 0 where
   none : Maybe A
   given : A → Maybe A
 
--- of a model, for a state counted from 1: none where the state is outside 1 to M, n outside 1 to N or r outside 1 to R
+-- a model has no such U(n,r): the state, counted from 1, is outside 1 to M, n outside 1 to N or r outside 1 to R
+abbrev pub lacks : Model → ℕ → ℕ → ℕ → Bool
+lacks m state n r = outside state (m .states) || outside n (modelLevel m) || outside r (m .highest)
+
+-- what a model gives: none where it has no such U(n,r)
 unfoldable pub restsOf : Model → ℕ → ℕ → ℕ → Maybe Rests
-restsOf m state n r =
-    pick (outside state (m .states) || outside n (modelLevel m) || outside r (m .highest)) none (given (restsAt (chainOf m) n r (state - 1)))
+restsOf m state n r = pick (lacks m state n r) none (given (restsAt (chainOf m) n r (state - 1)))
 
 -- what a call answers of the file s: the first of rows 1 to 12 that holds, before all else
 unfoldable pub remaindersOf : List ℕ → ℕ → ℕ → ℕ → Answer (Maybe Rests)

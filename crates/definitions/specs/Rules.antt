@@ -19,14 +19,18 @@ pub data Answer (A : Type 0) : Type 0 where
 abbrev pub Rows : Type 0
 Rows = List (ℕ × Bool)
 
+-- a number that is not from 1 to most
+abbrev pub outside : ℕ → ℕ → Bool
+outside x most = eqb x 0 || ltb most x
+
 -- rows 1 to 6, the framing: length, version, M and R
 unfoldable pub framing : List ℕ → Rows
 framing s =
     (1, ltb (length s) 13)
     ∷ (2, not (eqb (lengthField s) (length s - 2)))
     ∷ (3, not (eqb (version s) 1))
-    ∷ (4, eqb (stateCount s) 0 || ltb 64 (stateCount s))
-    ∷ (5, eqb (highestMoment s) 0 || ltb 8 (highestMoment s))
+    ∷ (4, outside (stateCount s) 64)
+    ∷ (5, outside (highestMoment s) 8)
     ∷ (6, not (eqb (lengthField s) (4 * stateCount s * stateCount s + 11)))
     ∷ []
 
@@ -38,7 +42,7 @@ startsAtZero (first ∷ later) = eqb first 0
 -- rows 7 to 11, the quantities: tolerance, time, rewards and rates of a model, lent with a list of times (without one: an empty list)
 unfoldable pub quantities : Model → List ℕ → Rows
 quantities m times =
-    (7, eqb (m .tolerance) 0 || ltb 100000000 (m .tolerance))
+    (7, outside (m .tolerance) 100000000)
     ∷ (8, eqb (m .time) 0 || startsAtZero times)
     ∷ (9, anyAbove 1000000 (m .states) (m .reward))
     ∷ (10, not (anyAbove 0 (m .states) (m .reward)))
@@ -53,7 +57,7 @@ fallsUpTo (suc n) times = fallsUpTo n times || leb (getD times (suc n) 0) (getD 
 -- rows 14 and 15, the list of times: how many there are, and that each is above the one before it
 unfoldable pub listing : List ℕ → Rows
 listing times =
-    (14, eqb (length times) 0 || ltb 8 (length times))
+    (14, outside (length times) 8)
     ∷ (15, fallsUpTo (length times - 1) times)
     ∷ []
 

@@ -12,7 +12,7 @@ use borrow.Author.Tests.{ltb-true, ltb-false, leb-false, eqb-true, eqb-false, no
 use Rattle.definitions.specs.Sums.{largest, anyAbove}
 use Rattle.definitions.specs.File.{lengthField, stateCount, highestMoment, toleranceField, timeField, rewardField}
 use Rattle.definitions.specs.Chain.{Model, modelOf, atTime, rowSum, uniformRate, maxReward, jumpMillionths, chainOf}
-use Rattle.definitions.specs.Rules.{accepted, Rows, framing, startsAtZero, quantities, fallsUpTo, listing, lastTime, jumps, room, blockSize, fileRows, rows, seriesRows, firstHeld, judgedBy, fileJudgement, judgement, seriesJudgement}
+use Rattle.definitions.specs.Rules.{accepted, Rows, outside, framing, startsAtZero, quantities, fallsUpTo, listing, lastTime, jumps, room, blockSize, fileRows, rows, seriesRows, firstHeld, judgedBy, fileJudgement, judgement, seriesJudgement}
 use Rattle.definitions.specs.Series.{modelAt}
 use Rattle.laws.specs.SumLaws.{any-largest}
 use Rattle.laws.specs.RuleLaws.{andThen, in-parts, NoneHold, none-hold, accepted-value, none-in-parts}
@@ -28,7 +28,7 @@ neither false true h = absurd (let z : _≡_ {A = ℕ} 0 1 = cc in omega arith)
 neither false false h = (refl, refl)
 
 -- a number that is neither 0 nor above k
-pub in-range : (x k : ℕ) → (eqb x 0 || ltb k x) ≡ false → (1 ≤ x) × (x ≤ k)
+pub in-range : (x k : ℕ) → outside x k ≡ false → (1 ≤ x) × (x ≤ k)
 in-range x k h =
     let both : (eqb x 0 ≡ false) × (ltb k x ≡ false) = neither (eqb x 0) (ltb k x) h in
     let nonzero : x ≡ 0 → ⊥ = eqb-false x 0 (both .0) in

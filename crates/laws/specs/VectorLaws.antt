@@ -5,7 +5,7 @@ use native.Mathlib.Nat.{mul-le-mul, mul-le-mul-left, mul-le-mul-right, le-trans}
 use mathlib.Core.Path.{_≡_, refl, sym, _∙_, ap, ap₂}
 use Rattle.definitions.specs.Sums.{sum}
 use Rattle.definitions.specs.Chain.{Chain}
-use Rattle.definitions.specs.Vectors.{ONE, rowMean, rewardShare, mix, nextEntry, firstVectors, nextVectors, U}
+use Rattle.definitions.specs.Vectors.{ONE, rowTotal, rowMean, rewardShare, mix, nextEntry, firstVectors, nextVectors, U}
 use Rattle.definitions.specs.Remainders.{meanOf, shareOf}
 use Rattle.laws.specs.Rounding.{quotient-at-most}
 use Rattle.laws.specs.SumLaws.{sum-same, sum-mono, sum-times}
@@ -92,13 +92,14 @@ U-bound ch s zero = U-bound-first ch s
 U-bound ch s (suc n) = U-bound-next ch s n (U-bound ch s n)
 
 -- the row mean, the reward share and the next entry read a chain at its states alone
+pub rowTotal-same : (a b : Chain) (v w : ℕ → ℕ) (i : ℕ) → SameChain a b → i < a .states → ((j : ℕ) → j < a .states → v j ≡ w j) → rowTotal a v i ≡ rowTotal b w i
+rowTotal-same a b v w i e l h =
+    sum-same (a .states) (λ j. a .entry i j * v j) (λ j. b .entry i j * w j) (λ j k. ap₂ _*_ (e .entry i j l k) (h j k))
+    ∙ ap (λ (n : ℕ). sum n (λ j. b .entry i j * w j)) (e .states)
+
 rowMean-same : (a b : Chain) (v w : ℕ → ℕ) (i : ℕ) → SameChain a b → i < a .states → ((j : ℕ) → j < a .states → v j ≡ w j) → rowMean a v i ≡ rowMean b w i
 unfolding rowMean
-rowMean-same a b v w i e l h =
-    ap₂ _/_
-    (sum-same (a .states) (λ j. a .entry i j * v j) (λ j. b .entry i j * w j) (λ j k. ap₂ _*_ (e .entry i j l k) (h j k))
-    ∙ ap (λ (n : ℕ). sum n (λ j. b .entry i j * w j)) (e .states))
-    (e .rate)
+rowMean-same a b v w i e l h = ap₂ _/_ (rowTotal-same a b v w i e l h) (e .rate)
 
 rewardShare-same : (a b : Chain) (x i : ℕ) → SameChain a b → i < a .states → rewardShare a x i ≡ rewardShare b x i
 unfolding rewardShare

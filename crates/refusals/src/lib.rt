@@ -4,14 +4,12 @@
 // A file is a slice of any length, and nothing is asked of it. One that is accepted is framed (`Framed` in
 // the crate laws), so that the crate reader can read what it states.
 ghost use mathlib.Core.Path.{_≡_};
-ghost use mathlib.Core.Bool.{_||_};
 ghost use mathlib.Core.List.{_++_};
 ghost use Prim.Native.Nat.{_-_, _*_, _≤_, _<_, _^_};
-ghost use lib.Dec.{eqb, ltb};
 ghost use lib.ListN.{length};
 ghost use Rattle.definitions.specs.File.{highestMoment};
 ghost use Rattle.definitions.specs.Chain.{modelOf, uniformRate};
-ghost use Rattle.definitions.specs.Rules.{framing, startsAtZero, quantities, fallsUpTo, listing, lastTime, tooManyJumps, jumps, room, blockSize, firstHeld, judgedBy, fileJudgement, judgement, seriesJudgement, verdict};
+ghost use Rattle.definitions.specs.Rules.{outside, framing, startsAtZero, quantities, fallsUpTo, listing, lastTime, tooManyJumps, jumps, room, blockSize, firstHeld, judgedBy, fileJudgement, judgement, seriesJudgement, verdict};
 ghost use Rattle.laws.specs.Acceptance.{Framed};
 ghost use Rattle.refusals.specs.Rated.{ratedAs};
 use definitions::Judgement;
@@ -33,8 +31,9 @@ const MOST_ROW_SUM: u64 = 10_000_000;
 
 const MOST_JUMPS: u64 = 256_000_000;
 
-fn outside(x: u64, most: u64) -> bool
-    ensures { λ r. ⌜ r ≡ (eqb x 0 || ltb most x) ⌝ }
+// Whether x is not from 1 to most.
+pub fn outside(x: u64, most: u64) -> bool
+    ensures { λ r. ⌜ r ≡ outside x most ⌝ }
 {
     x == 0 || x > most
 }

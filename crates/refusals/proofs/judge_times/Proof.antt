@@ -1,13 +1,12 @@
 -- `refusals::judge_times` meets its contract: rows 14 and 15, then the jumps and the room. Assumes nothing.
 use Prim.Native.Nat.{ℕ, _*_, _≤_}
 use mathlib.Core.Path.{_≡_, refl, _∙_, sym, ap}
-use mathlib.Core.Bool.{Bool, false, _||_}
+use mathlib.Core.Bool.{false}
 use mathlib.Core.List.{List, _++_}
 use native.Mathlib.Omega.{arith}
-use lib.Dec.{eqb, ltb}
 use lib.ListN.{length, drop}
 use borrow.Author.Needs.{needs}
-use Rattle.definitions.specs.Rules.{Answer, refused, Rows, listing, lastTime, jumps, room, blockSize, judgedBy, verdict}
+use Rattle.definitions.specs.Rules.{Answer, refused, Rows, outside, listing, lastTime, jumps, room, blockSize, judgedBy, verdict}
 use Rattle.laws.specs.RuleLaws.{row-stops, row-passes, andThen, in-parts}
 use Rattle.laws.specs.RowLaws.{same-room, too-few, enough}
 use Rattle.laws.specs.Acceptance.{in-range}
@@ -28,10 +27,6 @@ levels start = room (length (times start)) (start .args .levels)
 abbrev listed : tie.Start → Rows
 listed start = listing (times start) ++ jumps (start .args .rate) (lastTime (times start)) ++ blocks start ++ levels start
 
--- row 14
-abbrev wrongCount : List ℕ → Bool
-wrongCount t = eqb (length t) 0 || ltb 8 (length t)
-
 -- the rows past the first k answer
 abbrev Left : tie.Start → ℕ → Type 0
 Left start k = judgedBy (listed start) ≡ judgedBy (drop k (listed start))
@@ -50,12 +45,12 @@ abbrev start-room : tie.After-judge-room → tie.Start
 start-room c = start12 (c .before)
 
 -- past its test there are 1 to 8 times
-counted : (c : tie.Else1) → wrongCount (times (start14 c)) ≡ false
+counted : (c : tie.Else1) → outside (length (times (start14 c))) 8 ≡ false
 counted c = sym (c .before .outside .ensures) ∙ c .if1 .left
 
 past-14 : (c : tie.Else1) → Left (start14 c) 1
 unfolding listing
-past-14 c = row-passes 14 (wrongCount (times (start14 c))) _ _ (counted c)
+past-14 c = row-passes 14 (outside (length (times (start14 c))) 8) _ _ (counted c)
 
 past-15 : (c : tie.Else2) → Left (start15 c) 2
 unfolding listing
@@ -82,7 +77,7 @@ returns : tie.Need-returns
 unfolding listing
 returns c =
     let start = c .before .before .before .before in
-    let stopped : judgedBy (listed start) ≡ refused 14 = row-stops 14 (wrongCount (times start)) _ _ (sym (c .before .outside .ensures) ∙ c .if1 .taken) in
+    let stopped : judgedBy (listed start) ≡ refused 14 = row-stops 14 (outside (length (times start)) 8) _ _ (sym (c .before .outside .ensures) ∙ c .if1 .taken) in
     sym stopped
 
 returns-2 : tie.Need-returns-2
