@@ -86,6 +86,9 @@ pub record SameChain (a b : Chain) : Type 0 where
   pub entry : (i j : ℕ) → i < a .states → j < a .states → a .entry i j ≡ b .entry i j
   pub reward : (i : ℕ) → i < a .states → a .reward i ≡ b .reward i
 
+pub itself : (ch : Chain) → SameChain ch ch
+itself ch = record { states = refl; rate = refl; largestReward = refl; entry = λ i j li lj. refl; reward = λ i l. refl }
+
 -- the arrays of a model's chain hold that chain, whatever stands past it
 pub arrays-same : (m : Model) (l : List ℕ) → m .states ≤ 64 → SameChain (arrays (sizesOf m) (flat (chainOf m) l) (padded (m .states) (m .reward))) (chainOf m)
 arrays-same m l h =

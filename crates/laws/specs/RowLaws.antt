@@ -8,8 +8,12 @@ use mathlib.Core.List.{List, [], _∷_}
 use lib.Dec.{eqb, leb}
 use lib.ListN.{length, getD}
 use borrow.Author.Tests.{le-leb, lt-leb, lt-ltb, le-ltb}
-use Rattle.definitions.specs.Rules.{accepted, refused, startsAtZero, fallsUpTo, jumps, room, judgedBy}
+use Rattle.definitions.specs.Rules.{accepted, refused, outside, startsAtZero, fallsUpTo, jumps, room, judgedBy}
 use Rattle.laws.specs.RuleLaws.{row-stops, row-passes, none-left}
+
+-- a test of 1 to most: with an equal limit it says the same
+pub same-limit : {most' : ℕ} (x most : ℕ) → most' ≡ most → outside x most' ≡ outside x most
+same-limit x most e = ap (outside x) e
 
 -- row 8: a list without a time, and one with a first time
 pub without-a-time : (t : List ℕ) → length t ≡ 0 → startsAtZero t ≡ false

@@ -47,7 +47,10 @@ pub fn scaled(a: u64, b: u64, c: u64) -> Division
 {
     match mul_div(a, b, c) {
         Divided::Into(d) => d,
-        Divided::Nothing => Division { quotient: 0, remainder: 0 },
+        Divided::Nothing => Division {
+            quotient: 0,
+            remainder: 0,
+        },
     }
 }
 
@@ -56,7 +59,10 @@ pub fn divide(n: u64, c: u64) -> Division
     requires { ⌜ 0 < c ⌝ }
     ensures { λ d. ⌜ d ≡ division n c ⌝ }
 {
-    Division { quotient: n / c, remainder: n % c }
+    Division {
+        quotient: n / c,
+        remainder: n % c,
+    }
 }
 
 // a * b by 10^12, in parts: quicker than the loop over the bits of b, for a caller who has many such products.
@@ -116,7 +122,10 @@ fn divide_by_bits(a: u64, b: u64, c: u64) -> Division
         quotient = 2 * quotient + how_often(sum, c);
         remainder = rest(sum, c);
     }
-    Division { quotient, remainder }
+    Division {
+        quotient,
+        remainder,
+    }
 }
 
 // How many bits b has, from its highest set one down.

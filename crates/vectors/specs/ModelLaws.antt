@@ -4,6 +4,7 @@ use mathlib.Core.List.{List}
 use Prim.Native.Nat.{ℕ, _*_, _≤_, _<_}
 use native.Mathlib.Omega.{arith}
 use lib.ListN.{length}
+use Rattle.definitions.specs.declared.Sizes.{Sizes}
 use Rattle.definitions.specs.Sums.{sum}
 use Rattle.definitions.specs.Chain.{Model, Chain, chainOf, padded, flatEntry, flat, arrays, sizesOf}
 use Rattle.laws.specs.SumLaws.{sum-same}
@@ -28,7 +29,14 @@ stochastic-same a b e s =
 abbrev pub held : Model → List ℕ → Chain
 held m l = arrays (sizesOf m) (flat (chainOf m) l) (padded (m .states) (m .reward))
 
-pub model-ready : (m : Model) (l : List ℕ) → WithinLimits m → m .states * m .states ≤ length l → Ready (sizesOf m) (flat (chainOf m) l) (padded (m .states) (m .reward))
+-- sizes and arrays that hold a model's chain
+pub record Held (m : Model) (z : Sizes) (l c f : List ℕ) : Type 0 where
+  pub sizes : z ≡ sizesOf m
+  pub room : m .states * m .states ≤ length l
+  pub entries : c ≡ flat (chainOf m) l
+  pub rewards : f ≡ padded (m .states) (m .reward)
+
+model-ready : (m : Model) (l : List ℕ) → WithinLimits m → m .states * m .states ≤ length l → Ready (sizesOf m) (flat (chainOf m) l) (padded (m .states) (m .reward))
 unfolding flat
 model-ready m l limits room =
     let range : Stochastic (held m l) = stochastic-same (held m l) (chainOf m) (arrays-same m l (limits .states-max)) (stochastic m) in
@@ -44,3 +52,11 @@ model-ready m l limits room =
       rate-max = limits .rate-max;
       stochastic = range;
     }
+
+-- they are ready for the steps
+pub held-ready : (m : Model) {z : Sizes} {l c f : List ℕ} → Held m z l c f → WithinLimits m → Ready z c f
+held-ready m {l = l} h limits = rw (h .sizes, h .entries, h .rewards) (model-ready m l limits (h .room))
+
+-- and what they hold is the model's chain
+pub held-same : (m : Model) {z : Sizes} {l c f : List ℕ} → Held m z l c f → m .states ≤ 64 → SameChain (arrays z c f) (chainOf m)
+held-same m {l = l} h few = rw (h .sizes, h .entries, h .rewards) (arrays-same m l few)

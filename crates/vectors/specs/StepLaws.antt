@@ -7,7 +7,7 @@ use lib.ListN.{getD}
 use Rattle.definitions.specs.Chain.{Chain, padded}
 use Rattle.definitions.specs.Vectors.{ONE, rewardShare, nextEntry, U, vector}
 use Rattle.laws.specs.ListLaws.{over-same}
-use Rattle.laws.specs.ChainLaws.{SameChain, getD-padded}
+use Rattle.laws.specs.ChainLaws.{itself, getD-padded}
 use Rattle.laws.specs.VectorLaws.{Stochastic, U-zero, U-first, U-next, U-bound, nextEntry-same}
 use Rattle.laws.specs.ArrayLaws.{zeros, entryOf, over-padded}
 use Rattle.vectors.specs.Ready.{Ticks}
@@ -15,9 +15,6 @@ use Rattle.vectors.specs.Ready.{Ticks}
 -- vectors that agree at the states are one array
 padded-same : (M : ℕ) (f g : ℕ → ℕ) → M ≤ 64 → ((i : ℕ) → i < M → f i ≡ g i) → padded M f ≡ padded M g
 padded-same M f g h same = sym (over-padded M f h) ∙ over-same M f g (zeros 64) same ∙ over-padded M g h
-
-itself : (ch : Chain) → SameChain ch ch
-itself ch = record { states = refl; rate = refl; largestReward = refl; entry = λ i j li lj. refl; reward = λ i l. refl }
 
 module _ (ch : Chain) (states-max : ch .states ≤ 64) where
   pub getD-vector : (n r i : ℕ) → i < ch .states → getD (vector ch n r) i 0 ≡ U ch n r i

@@ -135,3 +135,22 @@ pub fn next_table(
         table[r] = step(sizes, chain, rewards, n, r as u64, before, same);
     }
 }
+
+// The vectors of n, in a table of zeros: row r becomes U(n,r).
+pub fn table_at(
+    sizes: Sizes,
+    chain: &[u32],
+    rewards: &[u64; 64],
+    n: u64,
+    table: &mut [[u64; 64]; 9],
+)
+    requires { ⌜ Ready sizes (now chain) (now rewards) × (sizes .highest ≤ 8) × (n ≤ 1024) × (now table ≡ blank) ⌝ }
+    ensures { λ t. ⌜ now (table .exit) ≡ tableOf (arrays sizes (now (chain .entry)) (now (rewards .entry))) (sizes .highest) n ⌝ }
+{
+    first_table(sizes, rewards, table);
+    let mut k: u64 = 0;
+    while k < n {
+        k += 1;
+        next_table(sizes, chain, rewards, k, table);
+    }
+}

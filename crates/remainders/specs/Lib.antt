@@ -1,0 +1,2 @@
+-- What the contract of an inner function cites.
+pub mod Asked
