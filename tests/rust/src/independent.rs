@@ -1,5 +1,5 @@
 //! The calculation of document 01 with the last division of document 02's S-1, for the file's own time or for a list of
-//! times (S-3), written from the papers alone, in plain u128 arithmetic.
+//! times (S-3), and the remainders of its divisions (S-4), written from the papers alone, in plain u128 arithmetic.
 //!
 //! Nothing here was taken from the proved code: not its helper, not its order of work. Every product is
 //! formed whole in 128 bits and divided once, so each line can be read against the paper's sentence.
@@ -28,12 +28,19 @@ struct Model {
     chain: Vec<Vec<u128>>,
     /// E, the largest row sum, or 1.
     exit: u128,
+    /// F, the largest reward rate.
+    largest: u128,
 }
 
 impl Model {
+    /// M, the number of states.
+    fn states(&self) -> usize {
+        self.rewards.len()
+    }
+
     /// M × R, the cells that one time takes.
     fn block(&self) -> usize {
-        self.rewards.len() * self.highest
+        self.states() * self.highest
     }
 }
 
@@ -42,9 +49,14 @@ fn number(file: &[u8], at: usize, width: usize) -> u128 {
     file[at..at + width].iter().fold(0, |sum, &byte| sum * 256 + u128::from(byte))
 }
 
-/// The table "What stops a file", row by row, with the rows that a list of times adds to it; the first row that holds is
-/// returned. `list` is None where the file is calculated for its own time.
-fn read(file: &[u8], list: Option<&[u32]>, levels: usize, cells: usize) -> Result<Model, u8> {
+/// A moment, which is at most ONE, or a divisor or a remainder, in 64 bits.
+fn narrow(number: u128) -> u64 {
+    u64::try_from(number).expect("a number of at most 64 bits")
+}
+
+/// The table "What stops a file" but for row 13, row by row, with the rows that a list of times adds to it; the first row
+/// that holds is returned. `list` is None where the file is calculated for its own time.
+fn read(file: &[u8], list: Option<&[u32]>) -> Result<Model, u8> {
     // 1: fewer than 13 bytes
     if file.len() < 13 {
         return Err(1);
@@ -134,12 +146,16 @@ fn read(file: &[u8], list: Option<&[u32]>, levels: usize, cells: usize) -> Resul
     for i in 0..states {
         chain[i][i] = exit - sums[i];
     }
-    let model = Model { highest, tolerance, times, rewards, chain, exit };
-    // 13: fewer level cells than times, or fewer answer cells than M × R for each time
+    let largest = *rewards.iter().max().expect("at least one state");
+    Ok(Model { highest, tolerance, times, rewards, chain, exit, largest })
+}
+
+/// 13: fewer level cells than times, or fewer answer cells than M × R for each time.
+fn enough(model: &Model, levels: usize, cells: usize) -> Result<(), u8> {
     if levels < model.times.len() || cells < model.times.len() * model.block() {
         return Err(13);
     }
-    Ok(model)
+    Ok(())
 }
 
 /// The weights w(0) .. w(N) for one time: the last of them is that of the level N.
@@ -173,6 +189,56 @@ fn weigh(model: &Model, time: u128) -> Vec<u128> {
     }
 }
 
+/// The level N for one time.
+fn level(model: &Model, time: u128) -> u64 {
+    weigh(model, time).len() as u64 - 1
+}
+
+/// A quotient, down, and what the division leaves.
+struct Division {
+    quotient: u128,
+    remainder: u128,
+}
+
+fn divide(dividend: u128, divisor: u128) -> Division {
+    Division { quotient: dividend / divisor, remainder: dividend % divisor }
+}
+
+/// The divisions of V, of W and of U(n,r) at i. `before` is U(n−1,r), and `lower` is U(n,r−1).
+fn divisions(model: &Model, i: usize, n: usize, r: usize, before: &[u128], lower: &[u128]) -> [Division; 3] {
+    // V: the sum over j of c(i,j) × U(n−1,r) at j, over E
+    let v = divide(model.chain[i].iter().zip(before).map(|(c, u)| c * u).sum(), model.exit);
+    // W: f(i) × U(n,r−1) at i, over F
+    let w = divide(model.rewards[i] * lower[i], model.largest);
+    // U(n,r) at i: (n × V + r × W) over (n + r)
+    let u = divide(n as u128 * v.quotient + r as u128 * w.quotient, (n + r) as u128);
+    [v, w, u]
+}
+
+/// U(0,0) to U(0,R): U(0,0) is ONE everywhere, and U(0,r) at i is f(i) × U(0,r−1) at i, over F.
+fn first_vectors(model: &Model) -> Vec<Vec<u128>> {
+    let mut vectors = vec![vec![ONE; model.states()]];
+    for r in 1..=model.highest {
+        let vector = (0..model.states()).map(|i| model.rewards[i] * vectors[r - 1][i] / model.largest).collect();
+        vectors.push(vector);
+    }
+    vectors
+}
+
+/// U(n,0) to U(n,R), where `before` is U(n−1,0) to U(n−1,R); U(n,0) is ONE everywhere.
+fn next_vectors(model: &Model, n: usize, before: &[Vec<u128>]) -> Vec<Vec<u128>> {
+    let mut vectors = vec![vec![ONE; model.states()]];
+    for r in 1..=model.highest {
+        let at = |i| {
+            let [_, _, u] = divisions(model, i, n, r, &before[r], &vectors[r - 1]);
+            u.quotient
+        };
+        let vector = (0..model.states()).map(at).collect();
+        vectors.push(vector);
+    }
+    vectors
+}
+
 /// A × 10^12 over S(N), rounded to the nearest tick, a half going up: half of S(N) is added before the division, and
 /// all is doubled so that this half is a whole number.
 fn last_division(a: u128, s: u128) -> u128 {
@@ -182,36 +248,17 @@ fn last_division(a: u128, s: u128) -> u128 {
 /// Fills `levels[k]` with the level of time k, and from `cells[k × M × R]` on its moments: moment r of state i in
 /// cell (i − 1) × R + (r − 1) of the block, states counted from 1.
 fn work_out(model: &Model, levels: &mut [u64], cells: &mut [u64]) {
-    let states = model.rewards.len();
-    // F, the largest reward rate
-    let largest = *model.rewards.iter().max().expect("at least one state");
+    let states = model.states();
     let weights: Vec<Vec<u128>> = model.times.iter().map(|&time| weigh(model, time)).collect();
     let terms = weights.iter().map(Vec::len).max().expect("at least one time");
 
-    // u[r][i] is U(n,r) at i; U(n,0) is ONE everywhere. U(0,r) at i is f(i) × U(0,r−1) at i, over F.
-    let mut u = vec![vec![ONE; states]; model.highest + 1];
-    for r in 1..=model.highest {
-        u[r] = (0..states).map(|i| model.rewards[i] * u[r - 1][i] / largest).collect();
-    }
+    // u[r][i] is U(n,r) at i
+    let mut u = first_vectors(model);
     // a[k][r][i] is time k's A, the sum over n of (w(n) × U(n,r) at i over 10^12)
     let mut a = vec![vec![vec![0; states]; model.highest + 1]; model.times.len()];
     for n in 0..terms {
         if n > 0 {
-            for r in 1..=model.highest {
-                // The new vector is whole before it takes the old one's place; u[r − 1] is already U(n,r−1).
-                let next = (0..states)
-                    .map(|i| {
-                        // V: the sum over j of c(i,j) × U(n−1,r) at j, over E
-                        let products: u128 = model.chain[i].iter().zip(&u[r]).map(|(c, u)| c * u).sum();
-                        let v = products / model.exit;
-                        // W: f(i) × U(n,r−1) at i, over F
-                        let w = model.rewards[i] * u[r - 1][i] / largest;
-                        // U(n,r) at i: (n × V + r × W) over (n + r)
-                        (n as u128 * v + r as u128 * w) / (n + r) as u128
-                    })
-                    .collect();
-                u[r] = next;
-            }
+            u = next_vectors(model, n, &u);
         }
         for (a, weights) in a.iter_mut().zip(&weights) {
             // past its own level a time takes no term
@@ -231,7 +278,7 @@ fn work_out(model: &Model, levels: &mut [u64], cells: &mut [u64]) {
         for i in 0..states {
             for r in 1..=model.highest {
                 let moment = last_division(a[k][r][i], total);
-                block[i * model.highest + (r - 1)] = u64::try_from(moment).expect("a moment is at most ONE");
+                block[i * model.highest + (r - 1)] = narrow(moment);
             }
         }
     }
@@ -241,7 +288,8 @@ fn work_out(model: &Model, levels: &mut [u64], cells: &mut [u64]) {
 /// states counted from 1, and returns the level N. Otherwise returns the row, and leaves the cells alone.
 pub fn calculate(file: &[u8], cells: &mut [u64]) -> Result<u64, u8> {
     let mut levels = [0];
-    let model = read(file, None, levels.len(), cells.len())?;
+    let model = read(file, None)?;
+    enough(&model, levels.len(), cells.len())?;
     work_out(&model, &mut levels, cells);
     Ok(levels[0])
 }
@@ -251,7 +299,58 @@ pub fn calculate(file: &[u8], cells: &mut [u64]) -> Result<u64, u8> {
 /// the levels and the cells alone.
 #[allow(dead_code)] // not every program that uses this file calls it
 pub fn series(file: &[u8], times: &[u32], levels: &mut [u64], cells: &mut [u64]) -> Result<u64, u8> {
-    let model = read(file, Some(times), levels.len(), cells.len())?;
+    let model = read(file, Some(times))?;
+    enough(&model, levels.len(), cells.len())?;
     work_out(&model, levels, cells);
     Ok(times.len() as u64)
+}
+
+/// What a file is measured by that no row from 1 to 12 stops.
+#[allow(dead_code)] // not every program that uses this file reads it
+pub struct Sizes {
+    /// M, N and R: the last state, the level at the file's own time, and the highest moment.
+    pub limits: [u64; 3],
+    /// E and F.
+    pub divisors: [u64; 2],
+}
+
+impl Sizes {
+    fn of(model: &Model) -> Sizes {
+        Sizes {
+            limits: [model.states() as u64, level(model, model.times[0]), model.highest as u64],
+            divisors: [model.exit, model.largest].map(narrow),
+        }
+    }
+}
+
+/// The sizes of a file; or the row from 1 to 12 that stops it.
+#[allow(dead_code)] // not every program that uses this file calls it
+pub fn sizes(file: &[u8]) -> Result<Sizes, u8> {
+    Ok(Sizes::of(&read(file, None)?))
+}
+
+/// Judges `file` by rows 1 to 12, and where none holds writes the remainders of V, of W and of U(n,r) at the state,
+/// counted from 1, and returns 0. Where the state, n or r is outside its limits it writes nothing and returns 1.
+/// Otherwise it returns the row, and writes nothing.
+#[allow(dead_code)] // not every program that uses this file calls it
+pub fn remainders(
+    file: &[u8],
+    [state, n, r]: [u64; 3],
+    mean: &mut u64,
+    share: &mut u64,
+    mix: &mut u64,
+) -> Result<u64, u8> {
+    let model = read(file, None)?;
+    let outside = |(number, limit)| number < 1 || number > limit;
+    if [state, n, r].into_iter().zip(Sizes::of(&model).limits).any(outside) {
+        return Ok(1);
+    }
+    let (i, n, r) = (state as usize - 1, n as usize, r as usize);
+    let before = (1..n).fold(first_vectors(&model), |vectors, k| next_vectors(&model, k, &vectors));
+    let vectors = next_vectors(&model, n, &before);
+    let [v, w, u] = divisions(&model, i, n, r, &before[r], &vectors[r - 1]);
+    *mean = narrow(v.remainder);
+    *share = narrow(w.remainder);
+    *mix = narrow(u.remainder);
+    Ok(0)
 }
