@@ -2,7 +2,7 @@
 //! what its inputs must reach.
 
 use crate::lent::Lent;
-use crate::models::{Input, SeriesInput};
+use crate::models::{self, Input, RemaindersInput, SeriesInput};
 use crate::{independent, library};
 
 /// The number that an accepting call returns, or the row that refuses.
@@ -38,14 +38,16 @@ impl Outcome {
     }
 }
 
+/// Ends beyond acceptance and each row that inputs of a call must come to, in groups.
+pub type Ends = &'static [&'static [&'static str]];
+
 /// An input of one of the calls.
 pub trait Case {
     /// The call's name.
     const CALL: &'static str;
     /// The rows of its table.
     const ROWS: &'static [u8];
-    /// Ends beyond acceptance and each row that inputs must come to.
-    const ENDS: &'static [&'static str];
+    const ENDS: Ends;
     /// The call as a function.
     type Function;
     const PROVED: Self::Function;
@@ -54,8 +56,8 @@ pub trait Case {
     /// Calls on lent slices.
     fn run(&self, call: Self::Function) -> Outcome;
 
-    /// Whether what an accepting call wrote is what else the papers say of it; or what is not.
-    fn accepted(&self, written: &Written) -> Result<(), String>;
+    /// Whether what an accepting call wrote, with this answer, is what else the papers say of it; or what is not.
+    fn accepted(&self, answer: u64, written: &Written) -> Result<(), String>;
 
     /// Those of the ends that the input came to.
     fn ends(&self, answer: Answer, written: &Written) -> Vec<&'static str>;
@@ -71,8 +73,8 @@ pub fn both<C: Case>(input: &C) -> Result<(Answer, Written), String> {
     let proved = input.run(C::PROVED);
     proved.compare(&input.run(C::INDEPENDENT), "independently")?;
     let written = proved.written?;
-    if proved.answer.is_ok() {
-        input.accepted(&written)?;
+    if let Ok(answer) = proved.answer {
+        input.accepted(answer, &written)?;
     }
     Ok((proved.answer, written))
 }
@@ -93,7 +95,7 @@ fn at_most_one(moments: &[u64]) -> Result<(), String> {
 impl Case for Input {
     const CALL: &'static str = "calculate";
     const ROWS: &'static [u8] = &[1, 2, 3, 4, 5, 6, 7, 8, 9, 10, 11, 12, 13];
-    const ENDS: &'static [&'static str] = &[];
+    const ENDS: Ends = &[];
     type Function = fn(&[u8], &mut [u64]) -> Answer;
     const PROVED: Self::Function = library::calculate;
     const INDEPENDENT: Self::Function = independent::calculate;
@@ -107,7 +109,7 @@ impl Case for Input {
         Outcome { answer, written }
     }
 
-    fn accepted(&self, written: &Written) -> Result<(), String> {
+    fn accepted(&self, _: u64, written: &Written) -> Result<(), String> {
         at_most_one(&written[0].1)
     }
 
@@ -141,27 +143,10 @@ const FEW_OF_BOTH: &str = "13 by both";
 impl Case for SeriesInput {
     const CALL: &'static str = "series";
     const ROWS: &'static [u8] = &[1, 2, 3, 4, 5, 6, 7, 8, 9, 10, 11, 14, 15, 12, 13];
-    const ENDS: &'static [&'static str] = &[
-        TIMES[0],
-        TIMES[1],
-        TIMES[2],
-        TIMES[3],
-        TIMES[4],
-        TIMES[5],
-        TIMES[6],
-        TIMES[7],
-        LEVELS_DIFFER,
-        OWN_TIME_TOO_LATE,
-        OWN_TIME_0,
-        FIRST_TIME_0,
-        NO_TIME,
-        MANY_TIMES,
-        EQUAL,
-        FALLING,
-        OWN_TIME_FITS,
-        FEW_LEVELS,
-        FEW_CELLS,
-        FEW_OF_BOTH,
+    const ENDS: Ends = &[
+        &TIMES,
+        &[LEVELS_DIFFER, OWN_TIME_TOO_LATE, OWN_TIME_0, FIRST_TIME_0, NO_TIME, MANY_TIMES, EQUAL, FALLING],
+        &[OWN_TIME_FITS, FEW_LEVELS, FEW_CELLS, FEW_OF_BOTH],
     ];
     type Function = fn(&[u8], &[u32], &mut [u64], &mut [u64]) -> Answer;
     const PROVED: Self::Function = library::series;
@@ -182,7 +167,7 @@ impl Case for SeriesInput {
     }
 
     /// Each level and each block is that of the file with the time in bytes 9 to 12.
-    fn accepted(&self, written: &Written) -> Result<(), String> {
+    fn accepted(&self, _: u64, written: &Written) -> Result<(), String> {
         let (levels, cells) = (&written[0].1, &written[1].1);
         let block = block(&self.file);
         at_most_one(cells)?;
@@ -232,5 +217,108 @@ impl Case for SeriesInput {
 
     fn lent(&self) -> String {
         format!("times {:?}, {} levels, {} cells", self.times, self.levels, self.cells)
+    }
+}
+
+const GIVEN: &str = "given";
+const ALL_ABOVE_0: &str = "given, all three above 0";
+const NONE_BY: [&str; 3] = ["none by the state alone", "none by n alone", "none by r alone"];
+/// For each of state, n and r: its borders, in the order of `models::borders`, the other two inside.
+const BORDERS: [[&str; 7]; 3] = [
+    ["state 0", "state 1", "state M", "state M + 1", "state 2^32 + 1", "state 2^32 + M", "state 2^64 - 1"],
+    ["n 0", "n 1", "n N", "n N + 1", "n 2^32 + 1", "n 2^32 + N", "n 2^64 - 1"],
+    ["r 0", "r 1", "r R", "r R + 1", "r 2^32 + 1", "r 2^32 + R", "r 2^64 - 1"],
+];
+/// A refusal by each row, with a state, n and r that are outside in any file.
+const ALL_OUTSIDE: [&str; 12] = [
+    "1, all outside",
+    "2, all outside",
+    "3, all outside",
+    "4, all outside",
+    "5, all outside",
+    "6, all outside",
+    "7, all outside",
+    "8, all outside",
+    "9, all outside",
+    "10, all outside",
+    "11, all outside",
+    "12, all outside",
+];
+/// What M, N and R are at most in any file.
+const MOST: [u64; 3] = [64, 1_024, 8];
+
+impl RemaindersInput {
+    /// Which of state, n and r are from 1 to their limits.
+    fn inside(&self, limits: [u64; 3]) -> [bool; 3] {
+        [0, 1, 2].map(|k| (1..=limits[k]).contains(&self.asked[k]))
+    }
+}
+
+impl Case for RemaindersInput {
+    const CALL: &'static str = "remainders";
+    const ROWS: &'static [u8] = &[1, 2, 3, 4, 5, 6, 7, 8, 9, 10, 11, 12];
+    const ENDS: Ends = &[&[GIVEN, ALL_ABOVE_0], &NONE_BY, &BORDERS[0], &BORDERS[1], &BORDERS[2], &ALL_OUTSIDE];
+    type Function = fn(&[u8], [u64; 3], &mut u64, &mut u64, &mut u64) -> Answer;
+    const PROVED: Self::Function = library::remainders;
+    const INDEPENDENT: Self::Function = independent::remainders;
+
+    fn run(&self, call: Self::Function) -> Outcome {
+        let file = Lent::holding("byte", &self.file);
+        let [mut mean, mut share, mut mix] = ["mean", "share", "mix"].map(|name| Lent::marked(name, 1));
+        let answer = call(file.slice(), self.asked, mean.number_mut(), share.number_mut(), mix.number_mut());
+        let count = usize::from(answer == Ok(library::GIVEN));
+        let written =
+            file.unchanged().and_then(|()| Ok(vec![mean.written(count)?, share.written(count)?, mix.written(count)?]));
+        Outcome { answer, written }
+    }
+
+    /// Each remainder is below its divisor: E, F, and n + r.
+    fn accepted(&self, answer: u64, written: &Written) -> Result<(), String> {
+        if answer == library::NONE {
+            return Ok(());
+        }
+        let [exit, largest] = independent::sizes(&self.file).expect("an accepted file").divisors;
+        let [_, n, r] = self.asked;
+        for ((name, remainder), divisor) in written.iter().zip([exit, largest, n + r]) {
+            if remainder[0] >= divisor {
+                return Err(format!("{name} is {}, and its divisor {divisor}", remainder[0]));
+            }
+        }
+        Ok(())
+    }
+
+    fn ends(&self, answer: Answer, written: &Written) -> Vec<&'static str> {
+        if let Err(row) = answer {
+            let all_outside = self.inside(MOST) == [false; 3];
+            return if all_outside { vec![ALL_OUTSIDE[usize::from(row) - 1]] } else { vec![] };
+        }
+        let limits = models::limits(&self.file);
+        let inside = self.inside(limits);
+        let mut ends = vec![];
+        if answer == Ok(library::GIVEN) {
+            ends.push(GIVEN);
+            if written.iter().all(|(_, remainder)| remainder[0] > 0) {
+                ends.push(ALL_ABOVE_0);
+            }
+        }
+        for k in 0..3 {
+            if (0..3).all(|other| other == k || inside[other]) {
+                let borders = BORDERS[k].into_iter().zip(models::borders(limits[k]));
+                ends.extend(borders.filter(|(_, border)| *border == self.asked[k]).map(|(name, _)| name));
+                if !inside[k] {
+                    ends.push(NONE_BY[k]);
+                }
+            }
+        }
+        ends
+    }
+
+    fn file(&self) -> &[u8] {
+        &self.file
+    }
+
+    fn lent(&self) -> String {
+        let [state, n, r] = self.asked;
+        format!("state {state}, n {n}, r {r}")
     }
 }

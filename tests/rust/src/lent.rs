@@ -24,7 +24,7 @@ impl Element for u32 {
 }
 
 impl Element for u64 {
-    /// No moment and no level.
+    /// No moment, no level and no remainder.
     fn marker(at: usize) -> u64 {
         0xA5A5_0000_0000_0000 | at as u64
     }
@@ -64,6 +64,11 @@ impl<T: Element> Lent<T> {
     pub fn slice_mut(&mut self) -> &mut [T] {
         let range = self.range();
         &mut self.now[range]
+    }
+
+    /// The one element of a slice that has one.
+    pub fn number_mut(&mut self) -> &mut T {
+        &mut self.slice_mut()[0]
     }
 
     /// The name and the first `count` elements, after a call that writes these and no more; or a line on what else it has

@@ -3,6 +3,10 @@
 /// An answer from here on is this and the number of a refusal.
 const REFUSED: u64 = 1_000_000;
 
+/// What `remainders` answers of a file without a refusal.
+pub const GIVEN: u64 = 0;
+pub const NONE: u64 = 1;
+
 extern "C" {
     fn kuldrepso_calculate(file: *const u8, file_length: usize, cells: *mut u64, cell_count: usize) -> u64;
     fn kuldrepso_series(
@@ -15,10 +19,21 @@ extern "C" {
         cells: *mut u64,
         cell_count: usize,
     ) -> u64;
+    fn kuldrepso_remainders(
+        file: *const u8,
+        file_length: usize,
+        state: u64,
+        n: u64,
+        r: u64,
+        mean: *mut u64,
+        share: *mut u64,
+        mix: *mut u64,
+    ) -> u64;
 }
 
-// SAFETY of every call: it asks nothing of the elements of a slice or of their count. A Rust slice's pointer is never
-// null and holds as many elements as it says; those to write to are borrowed for writing, so they overlap no other.
+// SAFETY of every call: it asks nothing of the elements of a slice or of their count, nor of a number. A Rust slice's
+// pointer is never null and holds as many elements as it says, and a reference's holds one; those to write to are
+// borrowed for writing, so they overlap no other.
 
 /// Judges `file`; the level where it is accepted, with the moments in the cells, or the row that stops it.
 pub fn calculate(file: &[u8], cells: &mut [u64]) -> Result<u64, u8> {
@@ -40,6 +55,18 @@ pub fn series(file: &[u8], times: &[u32], levels: &mut [u64], cells: &mut [u64])
             cells.len(),
         )
     })
+}
+
+/// Judges `file`; where it is accepted GIVEN, with the remainders of V, W and U for the state, n and r in the three
+/// numbers, or NONE; or the row that stops it.
+pub fn remainders(
+    file: &[u8],
+    [state, n, r]: [u64; 3],
+    mean: &mut u64,
+    share: &mut u64,
+    mix: &mut u64,
+) -> Result<u64, u8> {
+    accepted(unsafe { kuldrepso_remainders(file.as_ptr(), file.len(), state, n, r, mean, share, mix) })
 }
 
 /// An answer, or the row that it refuses by.

@@ -1,6 +1,6 @@
 //! Compares the proved calls, linked from libkuldrepso.a, with an independent u128 calculation, input by input: the
-//! answer and every element of every lent slice, also those that must stay as they were. `tests/rust/run` builds and
-//! runs this.
+//! answer and every element of every lent slice, also those that must stay as they were; a number to be written to is
+//! lent as a slice of one. `tests/rust/run` builds and runs this.
 //!
 //!     compare [--seed S] [--count N] [--save DIR] [FILE..]
 
@@ -11,7 +11,8 @@ mod library;
 mod models;
 
 use calls::{Answer, Case, Outcome};
-use models::{Chance, Input, SeriesInput};
+use library::{GIVEN, NONE};
+use models::{Chance, Input, RemaindersInput, SeriesInput};
 use std::collections::BTreeMap;
 use std::panic::{catch_unwind, AssertUnwindSafe};
 use std::path::{Path, PathBuf};
@@ -82,11 +83,11 @@ impl Tally {
         let refused: Vec<String> = rows.iter().map(|row| format!("{row}: {}", count(row))).collect();
         let accepted = grouped(count("accepted"));
         println!("seed {seed}, {}: {accepted} accepted; refused by row {}", C::CALL, refused.join(", "));
-        if !C::ENDS.is_empty() {
-            let ends: Vec<String> = C::ENDS.iter().map(|end| format!("{end}: {}", count(end))).collect();
+        for group in C::ENDS {
+            let ends: Vec<String> = group.iter().map(|end| format!("{end}: {}", count(end))).collect();
             println!("  of them {}", ends.join("; "));
         }
-        let mut ends = rows.iter().map(String::as_str).chain(C::ENDS.iter().copied()).chain(["accepted"]);
+        let mut ends = rows.iter().map(String::as_str).chain(C::ENDS.concat()).chain(["accepted"]);
         if let Some(end) = ends.find(|end| count(end) == 0) {
             println!("rust comparison: no input of {} came to the end '{end}'", C::CALL);
             exit(1);
@@ -129,16 +130,22 @@ fn stopped() -> Vec<(&'static str, Vec<u8>, u8)> {
     ]
 }
 
+/// The same, and the example of row 12, for calls at the file's own time.
+fn stopped_at_own_time() -> Vec<(&'static str, Vec<u8>, u8)> {
+    let mut files = stopped();
+    files.push(("B, time 257", with(&B, 9, 257), 12));
+    files
+}
+
 /// The files of document 01: its examples of the table, and its hand-checked list.
 fn papers(tally: &mut Tally) {
     let input = |file: &[u8], cells| Input { file: file.to_vec(), cells };
     tally.hand_checked("A", &input(&A, 1), Ok(1), &[&A_MOMENTS]);
     tally.hand_checked("B", &input(&B, 512), Ok(3), &[&B_MOMENTS]);
     tally.hand_checked("B with 4 cells", &input(&B, 4), Ok(3), &[&B_MOMENTS]);
-    for (name, file, row) in stopped() {
+    for (name, file, row) in stopped_at_own_time() {
         tally.hand_checked(name, &input(&file, 512), Err(row), &[&[]]);
     }
-    tally.hand_checked("B, time 257", &input(&with(&B, 9, 257), 512), Err(12), &[&[]]);
     tally.hand_checked("B with 3 cells", &input(&B, 3), Err(13), &[&[]]);
     for (name, file) in [
         ("B, time 256", with(&B, 9, 256)),
@@ -210,6 +217,55 @@ fn series_papers(tally: &mut Tally) {
     }
 }
 
+/// B with rewards 3 and 1, and rates of 5 and 4 millionths an hour: N is 1, E is 5 and F is 3.
+fn uneven() -> Vec<u8> {
+    [(13, 3), (17, 1), (21, 5), (25, 4)].into_iter().fold(B.to_vec(), |file, (at, word)| with(&file, at, word))
+}
+
+/// Document 02's S-4 on the same files. The remainders are worked out by hand from document 01's steps.
+fn remainders_papers(tally: &mut Tally) {
+    let input = |file: &[u8], asked| RemaindersInput { file: file.to_vec(), asked };
+    let given: [(&str, &[u8], [u64; 3], [u64; 3]); 17] = [
+        ("A", &A, [1, 1, 1], [0, 0, 0]),
+        ("B", &B, [1, 1, 1], [0, 0, 0]),
+        ("B", &B, [2, 1, 1], [0, 0, 0]),
+        ("B", &B, [1, 1, 2], [0, 0, 1]),
+        ("B", &B, [2, 1, 2], [0, 0, 1]),
+        ("B", &B, [1, 2, 1], [0, 0, 2]),
+        ("B", &B, [2, 2, 1], [0, 0, 1]),
+        ("B", &B, [1, 2, 2], [0, 0, 2]),
+        ("B", &B, [2, 2, 2], [0, 0, 2]),
+        ("B", &B, [1, 3, 1], [0, 0, 3]),
+        ("B", &B, [2, 3, 1], [0, 0, 2]),
+        ("B", &B, [1, 3, 2], [0, 0, 1]),
+        ("B", &B, [2, 3, 2], [0, 0, 2]),
+        ("B, uneven", &uneven(), [1, 1, 1], [0, 0, 1]),
+        ("B, uneven", &uneven(), [2, 1, 1], [3, 1, 1]),
+        ("B, uneven", &uneven(), [1, 1, 2], [0, 0, 0]),
+        ("B, uneven", &uneven(), [2, 1, 2], [1, 2, 2]),
+    ];
+    for (name, file, asked, [mean, share, mix]) in given {
+        tally.hand_checked(name, &input(file, asked), Ok(GIVEN), &[&[mean], &[share], &[mix]]);
+    }
+    for (name, file, [states, level, highest]) in
+        [("A", &A[..], [1, 1, 1]), ("B", &B, [2, 3, 2]), ("B, uneven", &uneven(), [2, 1, 2])]
+    {
+        for outside in [0, 9, 1 << 32, (1 << 32) + 1, u64::MAX] {
+            for asked in [[outside, 1, 1], [1, outside, 1], [1, 1, outside], [outside; 3]] {
+                tally.hand_checked(name, &input(file, asked), Ok(NONE), &[&[], &[], &[]]);
+            }
+        }
+        for asked in [[states + 1, level, highest], [states, level + 1, highest], [states, level, highest + 1]] {
+            tally.hand_checked(name, &input(file, asked), Ok(NONE), &[&[], &[], &[]]);
+        }
+    }
+    for (name, file, row) in stopped_at_own_time() {
+        for asked in [[1, 1, 1], [0, 1, 1], [1, 0, 1], [1, 1, 0], [0, 0, 0], [3, 4, 3], [u64::MAX; 3]] {
+            tally.hand_checked(name, &input(&file, asked), Err(row), &[&[], &[], &[]]);
+        }
+    }
+}
+
 /// Longer than the length field can say: the field agrees with the low 16 bits of the count.
 fn too_long() -> Vec<u8> {
     let mut file = B.to_vec();
@@ -217,17 +273,22 @@ fn too_long() -> Vec<u8> {
     file
 }
 
+/// Every value of one header byte at a time, and every cut.
+fn headers_and_cuts<C: Case>(tally: &mut Tally, file: &[u8], input: impl Fn(Vec<u8>) -> C) {
+    for at in 0..13 {
+        for byte in 0..=255 {
+            tally.compare(&format!("byte {at} is {byte}"), &input(with_byte(file, at, byte)));
+        }
+    }
+    for length in 0..file.len() {
+        tally.compare(&format!("cut to {length} bytes"), &input(file[..length].to_vec()));
+    }
+}
+
 /// Every value of one thing at a time: a header byte, where a file is cut, how many cells are lent.
 fn sweeps(tally: &mut Tally, chance: &mut Chance) {
     for file in [&A[..], &B[..]] {
-        for at in 0..13 {
-            for byte in 0..=255 {
-                tally.compare(&format!("byte {at} is {byte}"), &Input { file: with_byte(file, at, byte), cells: 16 });
-            }
-        }
-        for length in 0..file.len() {
-            tally.compare(&format!("cut to {length} bytes"), &Input { file: file[..length].to_vec(), cells: 512 });
-        }
+        headers_and_cuts(tally, file, |file| Input { file, cells: 16 });
     }
     for _ in 0..12 {
         let (states, highest) = (chance.between(1, 6) as u8, chance.between(1, 8) as u8);
@@ -254,17 +315,7 @@ fn series_sweeps(tally: &mut Tally, chance: &mut Chance) {
                 }
             }
         }
-        for at in 0..13 {
-            for byte in 0..=255 {
-                let file = with_byte(file, at, byte);
-                let input = SeriesInput { file, times: vec![1, 3], levels: 3, cells: 18 };
-                tally.compare(&format!("byte {at} is {byte}"), &input);
-            }
-        }
-        for length in 0..file.len() {
-            let input = SeriesInput { file: file[..length].to_vec(), times: vec![1], levels: 1, cells: 4 };
-            tally.compare(&format!("cut to {length} bytes"), &input);
-        }
+        headers_and_cuts(tally, file, |file| SeriesInput { file, times: vec![1, 3], levels: 3, cells: 18 });
     }
     for time in 0..=258 {
         let input = SeriesInput { file: B.to_vec(), times: vec![time], levels: 1, cells: 4 };
@@ -274,6 +325,62 @@ fn series_sweeps(tally: &mut Tally, chance: &mut Chance) {
     }
     let input = SeriesInput { file: too_long(), times: vec![1], levels: 1, cells: 4 };
     tally.compare("65,536 bytes too many", &input);
+}
+
+/// Each of these states with each n and each r.
+fn remainders_at_each(tally: &mut Tally, name: &str, file: &[u8], [states, ns, rs]: [Vec<u64>; 3]) {
+    for &state in &states {
+        for &n in &ns {
+            for &r in &rs {
+                tally.compare(name, &RemaindersInput { file: file.to_vec(), asked: [state, n, r] });
+            }
+        }
+    }
+}
+
+fn remainders_at_borders(tally: &mut Tally, name: &str, file: &[u8], limits: [u64; 3]) {
+    remainders_at_each(tally, name, file, limits.map(|limit| models::borders(limit).to_vec()));
+}
+
+/// Every state, n and r from 0 to one past its limit.
+fn remainders_up_to_limits(tally: &mut Tally, file: &[u8]) {
+    let numbers = models::limits(file).map(|limit| (0..=limit + 1).collect());
+    remainders_at_each(tally, "every state, n and r", file, numbers);
+}
+
+/// A model of 1 to 3 states with a level of at most 24.
+fn low_level(chance: &mut Chance) -> Vec<u8> {
+    loop {
+        let (states, highest) = (chance.between(1, 3) as u8, chance.between(1, 8) as u8);
+        let file = models::accepted(chance, states, highest).bytes();
+        let [_, level, _] = models::limits(&file);
+        if level <= 24 {
+            return file;
+        }
+    }
+}
+
+/// Every value of a header byte, every cut; state, n and r at their borders, for stopped files too; every state, n and r
+/// of files with a low level.
+fn remainders_sweeps(tally: &mut Tally, chance: &mut Chance) {
+    for file in [&A[..], &B[..]] {
+        let asked = models::limits(file);
+        headers_and_cuts(tally, file, |file| RemaindersInput { file, asked });
+        remainders_at_borders(tally, "borders", file, asked);
+        remainders_up_to_limits(tally, file);
+    }
+    for (name, file, _) in stopped_at_own_time() {
+        remainders_at_borders(tally, name, &file, models::limits(&B));
+    }
+    for _ in 0..12 {
+        let (states, highest) = (chance.between(1, 6) as u8, chance.between(1, 8) as u8);
+        let file = models::accepted(chance, states, highest).bytes();
+        remainders_at_borders(tally, "borders", &file, models::limits(&file));
+    }
+    for _ in 0..8 {
+        remainders_up_to_limits(tally, &low_level(chance));
+    }
+    tally.compare("65,536 bytes too many", &RemaindersInput { file: too_long(), asked: [1, 1, 1] });
 }
 
 /// Many states: all numbers of states from 8 up, every R among them.
@@ -300,6 +407,25 @@ fn series_large(tally: &mut Tally, chance: &mut Chance) {
     tally.compare("the most of all", &input);
 }
 
+/// Remainders for many states: all numbers of states from 8 up, every R among them, whole and damaged.
+fn remainders_large(tally: &mut Tally, chance: &mut Chance) {
+    for states in 8..=64 {
+        let mut fields = models::accepted(chance, states, states % 8 + 1);
+        let asked = models::ask(chance, models::limits(&fields.bytes()));
+        tally.compare("many states", &RemaindersInput { file: fields.bytes(), asked });
+        let row = chance.between(3, 12);
+        models::damage(chance, &mut fields, row);
+        tally.compare("many states, damaged", &RemaindersInput { file: fields.bytes(), asked });
+    }
+    let file = models::heaviest(chance).bytes();
+    let last = models::limits(&file);
+    tally.compare("the last of all", &RemaindersInput { file: file.clone(), asked: last });
+    for _ in 0..4 {
+        let asked = models::ask(chance, last);
+        tally.compare("the heaviest", &RemaindersInput { file: file.clone(), asked });
+    }
+}
+
 /// The file of that name, with the name.
 fn stored(name: String) -> (String, Vec<u8>) {
     match std::fs::read(Path::new(&name)) {
@@ -321,6 +447,12 @@ fn up_to_own_time(file: &[u8]) -> SeriesInput {
     SeriesInput { file: file.to_vec(), times, levels: 4, cells: 4 * 512 }
 }
 
+/// The first state, n and r of a file, and the last of each, or 0 where it is stopped.
+fn first_and_last(file: &[u8]) -> [RemaindersInput; 2] {
+    let last = independent::sizes(file).map_or([0; 3], |sizes| sizes.limits);
+    [[1; 3], last].map(|asked| RemaindersInput { file: file.to_vec(), asked })
+}
+
 /// 1234567 as 1,234,567.
 fn grouped(number: usize) -> String {
     let digits = number.to_string();
@@ -334,64 +466,99 @@ fn grouped(number: usize) -> String {
     text
 }
 
+/// What decides the inputs: the seed, how many small ones are drawn for each call, and the stored files.
+struct Plan {
+    seed: u64,
+    count: usize,
+    files: Vec<(String, Vec<u8>)>,
+}
+
+fn compare_calculate(tally: &mut Tally, chance: &mut Chance, plan: &Plan) {
+    let seed = plan.seed;
+    papers(tally);
+    for (name, file) in &plan.files {
+        tally.compare(name, &Input { file: file.clone(), cells: 512 });
+    }
+    sweeps(tally, chance);
+    large(tally, chance);
+    for k in 0..plan.count {
+        let input = models::small(chance, k);
+        tally.compare(&format!("seed {seed}, small {k}"), &input);
+    }
+    for k in 0..8 {
+        let input = Input { file: models::heaviest(chance).bytes(), cells: 512 };
+        tally.compare(&format!("seed {seed}, heavy {k}"), &input);
+    }
+    for k in 0..400 {
+        let input = Input { file: models::half_tick(chance).bytes(), cells: 16 };
+        tally.compare(&format!("seed {seed}, half tick {k}"), &input);
+    }
+}
+
+fn compare_series(tally: &mut Tally, chance: &mut Chance, plan: &Plan) {
+    let seed = plan.seed;
+    series_papers(tally);
+    for (name, file) in &plan.files {
+        tally.compare(name, &up_to_own_time(file));
+    }
+    series_sweeps(tally, chance);
+    series_large(tally, chance);
+    for k in 0..plan.count {
+        let input = models::series(chance, k);
+        tally.compare(&format!("seed {seed}, list {k}"), &input);
+    }
+    for k in 0..400 {
+        let file = models::half_tick(chance).bytes();
+        let input = SeriesInput { file, times: vec![1, 2, 3], levels: 3, cells: 48 };
+        tally.compare(&format!("seed {seed}, half tick first {k}"), &input);
+    }
+}
+
+fn compare_remainders(tally: &mut Tally, chance: &mut Chance, plan: &Plan) {
+    let seed = plan.seed;
+    remainders_papers(tally);
+    for (name, file) in &plan.files {
+        for input in first_and_last(file) {
+            tally.compare(name, &input);
+        }
+    }
+    remainders_sweeps(tally, chance);
+    remainders_large(tally, chance);
+    for k in 0..plan.count {
+        let input = models::remainders(chance, k);
+        tally.compare(&format!("seed {seed}, remainders {k}"), &input);
+    }
+}
+
 fn main() {
-    let mut seed = 1869;
-    let mut count = 20_000;
+    let mut plan = Plan { seed: 1869, count: 20_000, files: vec![] };
     let mut tally = Tally { save: PathBuf::from("."), inputs: 0, ends: BTreeMap::new() };
-    let mut files = Vec::new();
     let mut words = std::env::args().skip(1);
     while let Some(word) = words.next() {
         let mut value = || words.next().unwrap_or_else(|| usage(&word));
         match word.as_str() {
-            "--seed" => seed = value().parse().unwrap_or_else(|_| usage(&word)),
-            "--count" => count = value().parse().unwrap_or_else(|_| usage(&word)),
+            "--seed" => plan.seed = value().parse().unwrap_or_else(|_| usage(&word)),
+            "--count" => plan.count = value().parse().unwrap_or_else(|_| usage(&word)),
             "--save" => tally.save = PathBuf::from(value()),
-            _ => files.push(word),
+            _ => plan.files.push(stored(word)),
         }
     }
 
-    papers(&mut tally);
-    let files: Vec<(String, Vec<u8>)> = files.into_iter().map(stored).collect();
-    for (name, file) in &files {
-        tally.compare(name, &Input { file: file.clone(), cells: 512 });
-    }
-    let mut chance = Chance::new(seed);
-    sweeps(&mut tally, &mut chance);
-    large(&mut tally, &mut chance);
-    for k in 0..count {
-        let input = models::small(&mut chance, k);
-        tally.compare(&format!("seed {seed}, small {k}"), &input);
-    }
-    for k in 0..8 {
-        let input = Input { file: models::heaviest(&mut chance).bytes(), cells: 512 };
-        tally.compare(&format!("seed {seed}, heavy {k}"), &input);
-    }
-    for k in 0..400 {
-        let input = Input { file: models::half_tick(&mut chance).bytes(), cells: 16 };
-        tally.compare(&format!("seed {seed}, half tick {k}"), &input);
-    }
-
+    let mut chance = Chance::new(plan.seed);
+    compare_calculate(&mut tally, &mut chance, &plan);
     let alone = tally.inputs;
-    series_papers(&mut tally);
-    for (name, file) in &files {
-        tally.compare(name, &up_to_own_time(file));
-    }
-    series_sweeps(&mut tally, &mut chance);
-    series_large(&mut tally, &mut chance);
-    for k in 0..count {
-        let input = models::series(&mut chance, k);
-        tally.compare(&format!("seed {seed}, list {k}"), &input);
-    }
-    for k in 0..400 {
-        let file = models::half_tick(&mut chance).bytes();
-        let input = SeriesInput { file, times: vec![1, 2, 3], levels: 3, cells: 48 };
-        tally.compare(&format!("seed {seed}, half tick first {k}"), &input);
-    }
+    compare_series(&mut tally, &mut chance, &plan);
+    let lists = tally.inputs - alone;
+    compare_remainders(&mut tally, &mut chance, &plan);
+    let remainders = tally.inputs - alone - lists;
 
-    tally.print::<Input>(seed);
-    tally.print::<SeriesInput>(seed);
-    let lists = grouped(tally.inputs - alone);
-    println!("rust comparison: {} inputs, {lists} of them with a list of times, all equal", grouped(tally.inputs));
+    tally.print::<Input>(plan.seed);
+    tally.print::<SeriesInput>(plan.seed);
+    tally.print::<RemaindersInput>(plan.seed);
+    let [inputs, lists, remainders] = [tally.inputs, lists, remainders].map(grouped);
+    println!(
+        "rust comparison: {inputs} inputs, {lists} of them with a list of times and {remainders} for remainders, all equal"
+    );
 }
 
 fn usage(word: &str) -> ! {

@@ -1,5 +1,7 @@
-//! Inputs from a seed: model files, whole and damaged, each with a number of answer cells; and lists of times for them.
+//! Inputs from a seed: model files, whole and damaged, each with a number of answer cells; lists of times for them; and
+//! states, n and r.
 
+use crate::independent;
 use std::collections::BTreeSet;
 
 /// A generator of numbers (SplitMix64): the same seed gives the same inputs on every machine.
@@ -109,6 +111,12 @@ impl SeriesInput {
         file[9..13].copy_from_slice(&time.to_be_bytes());
         file
     }
+}
+
+/// One input of the call for remainders: what is asked for are a state, n and r, in this order.
+pub struct RemaindersInput {
+    pub file: Vec<u8>,
+    pub asked: [u64; 3],
 }
 
 /// A model that is accepted. Row sums reach up to `exit` and the time is such that E × T is at most 256,000,000.
@@ -421,6 +429,56 @@ pub fn whole_series(chance: &mut Chance, states: u8, highest: u8, count: usize) 
         levels: count,
         cells: count * usize::from(states) * usize::from(highest),
     }
+}
+
+/// M, N and R of a file that no row from 1 to 12 stops: what state, n and r may be at most.
+pub fn limits(file: &[u8]) -> [u64; 3] {
+    independent::sizes(file).expect("an accepted file").limits
+}
+
+/// Numbers at the borders of 1 to `limit`, and two that are inside by their low 32 bits alone.
+pub fn borders(limit: u64) -> [u64; 7] {
+    [0, 1, limit, limit + 1, (1 << 32) + 1, (1 << 32) + limit, u64::MAX]
+}
+
+/// From 1 to `limit`, its ends often.
+fn inside(chance: &mut Chance, limit: u64) -> u64 {
+    match chance.between(0, 3) {
+        0 => 1,
+        1 => limit,
+        _ => chance.between(1, limit),
+    }
+}
+
+/// Outside 1 to `limit`, which is below 1,024; often inside by its low bits alone.
+fn outside(chance: &mut Chance, limit: u64) -> u64 {
+    let low_bits = inside(chance, limit);
+    match chance.between(0, 7) {
+        0 => 0,
+        1 => limit + 1,
+        2 => (1 << 32) + 1,
+        3 => u64::MAX,
+        4 => limit + chance.scaled(1, 1_000),
+        _ => (1 << chance.of(&[10, 16, 31, 32, 63])) + low_bits,
+    }
+}
+
+/// A state, n and r: all inside, one outside, or all outside.
+pub fn ask(chance: &mut Chance, limits: [u64; 3]) -> [u64; 3] {
+    let mut asked = limits.map(|limit| inside(chance, limit));
+    match chance.index(8) {
+        one @ 0..=2 => asked[one] = outside(chance, limits[one]),
+        3 => asked = limits.map(|limit| outside(chance, limit)),
+        _ => {}
+    }
+    asked
+}
+
+/// A file with a state, n and r that are drawn for the whole file; `k` picks in turn how it is spoiled then.
+pub fn remainders(chance: &mut Chance, k: usize) -> RemaindersInput {
+    let fields = few_states(chance);
+    let asked = ask(chance, limits(&fields.bytes()));
+    RemaindersInput { file: Spoiling::turn(k).bytes(chance, fields), asked }
 }
 
 /// Two states and N = 1: of 1,000 drawn pairs of rewards the one with which the last division of state 1's first moment
