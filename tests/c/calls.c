@@ -1,7 +1,7 @@
 /* Calls the proved library as include/kuldrepso.h declares it, on document 01's files, and on the longest file there is.
- * Every slice is lent from the midst of a larger array, and each call runs on a stack of its own. No call may change a
- * byte of the file, a time, an element that it has nothing to write to, anything before or after a lent slice, or the
- * stack past what the header says. `tests/c/run` builds and runs this, as C and as C++. */
+ * Every slice and every number to write to is lent from the midst of a larger array, and each call runs on a stack of
+ * its own. No call may change a byte of the file, a time, an element that it has nothing to write to, anything before or
+ * after what is lent, or the stack past what the header says. `tests/c/run` builds and runs this, as C and as C++. */
 #define _XOPEN_SOURCE 700
 #include "kuldrepso.h"
 
@@ -9,8 +9,8 @@
 #include <string.h>
 #include <ucontext.h>
 
-#if KULDREPSO_VERSION_MAJOR != 2 || KULDREPSO_VERSION_MINOR != 1
-#error "this test is for version 2.1 of the header"
+#if KULDREPSO_VERSION_MAJOR != 2 || KULDREPSO_VERSION_MINOR != 2
+#error "this test is for version 2.2 of the header"
 #endif
 #if KULDREPSO_REFUSED != 1000000 || KULDREPSO_ONE != 1000000000000
 #error "KULDREPSO_REFUSED or KULDREPSO_ONE has another value than callers rely on"
@@ -20,6 +20,9 @@
 #endif
 #if KULDREPSO_MOST_TIMES != 8
 #error "KULDREPSO_MOST_TIMES is not that of document 02's row 14"
+#endif
+#if KULDREPSO_GIVEN != 0 || KULDREPSO_NONE != 1
+#error "KULDREPSO_GIVEN or KULDREPSO_NONE has another value than callers rely on"
 #endif
 
 #ifdef __cplusplus
@@ -34,6 +37,7 @@ enum {
     TIMES = KULDREPSO_MOST_TIMES + 1,
     LEVELS = KULDREPSO_MOST_TIMES + 1,
     CELLS = KULDREPSO_MOST_TIMES * KULDREPSO_MOST_CELLS + 1,
+    NUMBER = GUARD + 1 + GUARD, /* a number to write to, with its guards */
     STACK = 128000,     /* what the header says that a call takes, with 1,000 bytes to a KB */
     STACK_GUARD = 65536 /* and what lies past it */
 };
@@ -61,14 +65,22 @@ static const uint64_t B_MOMENTS[32] = {
     532604023918, 312804856802, 467395976077, 247596808962,
 };
 
+/* What kuldrepso_remainders is asked for, its answer, and where that is KULDREPSO_GIVEN the remainders of V, W and U. */
+struct question {
+    const char *name;
+    uint64_t state, n, r, answer, remainders[3];
+};
+
 static int calls, faults;
 
-/* The slices, the call's name for faults, and its answer. */
+/* The slices, the numbers, the call's name for faults, and its answer. */
 static uint8_t bytes[GUARD + BYTES + GUARD];
 static uint32_t times[GUARD + TIMES + GUARD];
 static uint64_t levels[GUARD + LEVELS + GUARD];
 static uint64_t cells[GUARD + CELLS + GUARD];
 static size_t file_length, time_count, level_count, cell_count;
+static uint64_t numbers[3][NUMBER];
+static const struct question *asked;
 static const char *name;
 static uint64_t answered;
 static uint8_t stack[STACK_GUARD + STACK];
@@ -80,6 +92,11 @@ static void calculate(void) {
 static void series(void) {
     answered = kuldrepso_series(bytes + GUARD, file_length, times + GUARD, time_count, levels + GUARD, level_count,
                                 cells + GUARD, cell_count);
+}
+
+static void remainders(void) {
+    answered = kuldrepso_remainders(bytes + GUARD, file_length, asked->state, asked->n, asked->r, numbers[0] + GUARD,
+                                    numbers[1] + GUARD, numbers[2] + GUARD);
 }
 
 static void fault(const char *what, uint64_t number) {
@@ -104,7 +121,7 @@ static void expect_unchanged(const char *what, const void *array, size_t array_s
 }
 
 /* What stands at a place of a slice to write to, and of its guards, before a call: a number of its own, which is no
- * moment and no level. */
+ * moment, no level and no remainder. */
 static uint64_t word_before(size_t at) {
     return UINT64_C(0xA5A5000000000000) + at;
 }
@@ -132,21 +149,14 @@ struct lent {
     size_t time_count, level_count, cell_count;
 };
 
-/* Calls on a stack of its own: the answer is to be `answer`, the first `levels_written` levels `level_words`, the first
- * `cells_written` cells `moments`, and all else as before. */
-static void expect(const char *call_name, void (*call)(void), struct lent lent, uint64_t answer,
-                   const uint64_t *level_words, size_t levels_written, const uint64_t *moments, size_t cells_written) {
+/* Calls with `length` bytes of `file`, on a stack of its own: the answer is to be `answer`, and the bytes and the stack
+ * past what the header says as before. */
+static void run(const char *call_name, void (*call)(void), const uint8_t *file, size_t length, uint64_t answer) {
     static ucontext_t caller, own;
     size_t at;
     name = call_name;
-    lend(bytes, sizeof bytes, 1, lent.file, lent.file_length);
-    lend(times, sizeof times, sizeof times[0], lent.times, lent.time_count * sizeof times[0]);
-    mark(levels, GUARD + LEVELS + GUARD);
-    mark(cells, GUARD + CELLS + GUARD);
-    file_length = lent.file_length;
-    time_count = lent.time_count;
-    level_count = lent.level_count;
-    cell_count = lent.cell_count;
+    lend(bytes, sizeof bytes, 1, file, length);
+    file_length = length;
 
     memset(stack, PAINT, sizeof stack);
     getcontext(&own);
@@ -158,17 +168,30 @@ static void expect(const char *call_name, void (*call)(void), struct lent lent, 
     calls++;
 
     if (answered != answer) fault("the answer is", answered);
-    expect_unchanged("changed is the byte", bytes, sizeof bytes, 1, lent.file, lent.file_length);
-    expect_unchanged("changed is the list of times, at its byte", times, sizeof times, sizeof times[0], lent.times,
-                     lent.time_count * sizeof times[0]);
-    expect_words("not as expected is level", levels, GUARD + LEVELS + GUARD, level_words, levels_written);
-    expect_words("not as expected is cell", cells, GUARD + CELLS + GUARD, moments, cells_written);
+    expect_unchanged("changed is the byte", bytes, sizeof bytes, 1, file, length);
     for (at = 0; at < STACK_GUARD; at++) {
         if (stack[at] != PAINT) {
             fault("bytes of stack taken:", sizeof stack - at);
             break;
         }
     }
+}
+
+/* The answer is to be `answer`, the first `levels_written` levels `level_words`, the first `cells_written` cells
+ * `moments`, and all else as before. */
+static void expect(const char *call_name, void (*call)(void), struct lent lent, uint64_t answer,
+                   const uint64_t *level_words, size_t levels_written, const uint64_t *moments, size_t cells_written) {
+    lend(times, sizeof times, sizeof times[0], lent.times, lent.time_count * sizeof times[0]);
+    mark(levels, GUARD + LEVELS + GUARD);
+    mark(cells, GUARD + CELLS + GUARD);
+    time_count = lent.time_count;
+    level_count = lent.level_count;
+    cell_count = lent.cell_count;
+    run(call_name, call, lent.file, lent.file_length, answer);
+    expect_unchanged("changed is the list of times, at its byte", times, sizeof times, sizeof times[0], lent.times,
+                     lent.time_count * sizeof times[0]);
+    expect_words("not as expected is level", levels, GUARD + LEVELS + GUARD, level_words, levels_written);
+    expect_words("not as expected is cell", cells, GUARD + CELLS + GUARD, moments, cells_written);
 }
 
 /* kuldrepso_calculate with `length` bytes of `file` and `count` cells; the first `written` of them are to be `moments`. */
@@ -191,6 +214,18 @@ static void expect_series(const char *call_name, struct lent lent, const uint64_
 
 static void expect_series_refusal(const char *call_name, struct lent lent, int row) {
     expect(call_name, series, lent, KULDREPSO_REFUSED + (uint64_t)row, NULL, 0, NULL, 0);
+}
+
+/* kuldrepso_remainders with `length` bytes of `file`: the three numbers are to be written where the answer is given. */
+static void expect_remainders(const uint8_t *file, size_t length, const struct question *question) {
+    static const char *const what[3] = {"not as expected is the remainder of V, or what lies beside it, at",
+                                        "not as expected is the remainder of W, or what lies beside it, at",
+                                        "not as expected is the remainder of U, or what lies beside it, at"};
+    size_t k, written = question->answer == KULDREPSO_GIVEN ? 1 : 0;
+    for (k = 0; k < 3; k++) mark(numbers[k], NUMBER);
+    asked = question;
+    run(question->name, remainders, file, length, question->answer);
+    for (k = 0; k < 3; k++) expect_words(what[k], numbers[k], NUMBER, question->remainders + k, written);
 }
 
 /* `number` in `width` bytes from `at` on, big-endian. */
@@ -302,6 +337,75 @@ static void series_papers(void) {
     }
 }
 
+/* Documents 01 and 02 by hand. A state, n or r of 4294967297, which is 2^32 + 1, is inside by its low 32 bits alone. */
+static const struct question OF_A[5] = {
+    {"A, U(1,1)", 1, 1, 1, KULDREPSO_GIVEN, {0, 0, 0}},
+    {"A, state 0", 0, 1, 1, KULDREPSO_NONE, {0, 0, 0}},
+    {"A, state 2", 2, 1, 1, KULDREPSO_NONE, {0, 0, 0}},
+    {"A, n = N + 1", 1, 2, 1, KULDREPSO_NONE, {0, 0, 0}},
+    {"A, r 2", 1, 1, 2, KULDREPSO_NONE, {0, 0, 0}},
+};
+static const struct question OF_B[26] = {
+    {"B, U(1,1) at state 1", 1, 1, 1, KULDREPSO_GIVEN, {0, 0, 0}},
+    {"B, U(1,1) at state 2", 2, 1, 1, KULDREPSO_GIVEN, {0, 0, 0}},
+    {"B, U(1,2) at state 1", 1, 1, 2, KULDREPSO_GIVEN, {0, 0, 1}},
+    {"B, U(1,2) at state 2", 2, 1, 2, KULDREPSO_GIVEN, {0, 0, 1}},
+    {"B, U(2,1) at state 1", 1, 2, 1, KULDREPSO_GIVEN, {0, 0, 2}},
+    {"B, U(2,1) at state 2", 2, 2, 1, KULDREPSO_GIVEN, {0, 0, 1}},
+    {"B, U(2,2) at state 1", 1, 2, 2, KULDREPSO_GIVEN, {0, 0, 2}},
+    {"B, U(2,2) at state 2", 2, 2, 2, KULDREPSO_GIVEN, {0, 0, 2}},
+    {"B, U(3,1), n = N, at state 1", 1, 3, 1, KULDREPSO_GIVEN, {0, 0, 3}},
+    {"B, U(3,1), n = N, at state 2", 2, 3, 1, KULDREPSO_GIVEN, {0, 0, 2}},
+    {"B, U(3,2), n = N, at state 1", 1, 3, 2, KULDREPSO_GIVEN, {0, 0, 1}},
+    {"B, U(3,2), n = N, at state 2", 2, 3, 2, KULDREPSO_GIVEN, {0, 0, 2}},
+    {"B, state 0", 0, 3, 2, KULDREPSO_NONE, {0, 0, 0}},
+    {"B, state 3", 3, 3, 2, KULDREPSO_NONE, {0, 0, 0}},
+    {"B, state 4294967297", 4294967297, 3, 2, KULDREPSO_NONE, {0, 0, 0}},
+    {"B, state UINT64_MAX", UINT64_MAX, 3, 2, KULDREPSO_NONE, {0, 0, 0}},
+    {"B, n 0", 2, 0, 2, KULDREPSO_NONE, {0, 0, 0}},
+    {"B, n = N + 1", 2, 4, 2, KULDREPSO_NONE, {0, 0, 0}},
+    {"B, n 4294967297", 2, 4294967297, 2, KULDREPSO_NONE, {0, 0, 0}},
+    {"B, n UINT64_MAX", 2, UINT64_MAX, 2, KULDREPSO_NONE, {0, 0, 0}},
+    {"B, r 0", 2, 3, 0, KULDREPSO_NONE, {0, 0, 0}},
+    {"B, r 3", 2, 3, 3, KULDREPSO_NONE, {0, 0, 0}},
+    {"B, r 4294967297", 2, 3, 4294967297, KULDREPSO_NONE, {0, 0, 0}},
+    {"B, r UINT64_MAX", 2, 3, UINT64_MAX, KULDREPSO_NONE, {0, 0, 0}},
+    {"B, all 0", 0, 0, 0, KULDREPSO_NONE, {0, 0, 0}},
+    {"B, all UINT64_MAX", UINT64_MAX, UINT64_MAX, UINT64_MAX, KULDREPSO_NONE, {0, 0, 0}},
+};
+
+/* B with rewards 3 and 1, and rates of 5 and 4 millionths an hour: N is 1, E is 5 and F is 3. */
+static const uint32_t UNEVEN[4] = {3, 1, 5, 4};
+static const struct question OF_UNEVEN[5] = {
+    {"B, uneven, U(1,1) at state 1", 1, 1, 1, KULDREPSO_GIVEN, {0, 0, 1}},
+    {"B, uneven, U(1,1) at state 2", 2, 1, 1, KULDREPSO_GIVEN, {3, 1, 1}},
+    {"B, uneven, U(1,2) at state 1", 1, 1, 2, KULDREPSO_GIVEN, {0, 0, 0}},
+    {"B, uneven, U(1,2) at state 2", 2, 1, 2, KULDREPSO_GIVEN, {1, 2, 2}},
+    {"B, uneven, n = N + 1", 2, 2, 2, KULDREPSO_NONE, {0, 0, 0}},
+};
+
+static void remainders_papers(void) {
+    static const uint64_t any[6][3] = {{1, 1, 1}, {0, 1, 1}, {1, 0, 1},
+                                       {1, 1, 0}, {0, 0, 0}, {UINT64_MAX, UINT64_MAX, UINT64_MAX}};
+    uint8_t file[sizeof B];
+    size_t k, at;
+    for (k = 0; k < sizeof OF_A / sizeof OF_A[0]; k++) expect_remainders(A, sizeof A, &OF_A[k]);
+    for (k = 0; k < sizeof OF_B / sizeof OF_B[0]; k++) expect_remainders(B, sizeof B, &OF_B[k]);
+    memcpy(file, B, sizeof B);
+    for (k = 0; k < 4; k++) put(file, 13 + 4 * k, 4, UNEVEN[k]);
+    for (k = 0; k < sizeof OF_UNEVEN / sizeof OF_UNEVEN[0]; k++) expect_remainders(file, sizeof file, &OF_UNEVEN[k]);
+    /* a file's refusal comes before a state, n or r outside */
+    for (k = 0; k < 12; k++) {
+        const struct example *row = &EXAMPLES[k];
+        make(row, file);
+        for (at = 0; at < 6; at++) {
+            const struct question question = {row->name, any[at][0], any[at][1], any[at][2], KULDREPSO_REFUSED + k + 1,
+                                              {0, 0, 0}};
+            expect_remainders(file, row->length, &question);
+        }
+    }
+}
+
 static void no_elements(void) {
     const struct lent none = {A, 0, HOURS, 0, 0, 0}, time = {A, 0, HOURS, 1, 0, 0}, list = {A, sizeof A, HOURS, 1, 0, 0};
     expect_refusal("no byte and no cell", A, 0, 0, 1);
@@ -338,8 +442,18 @@ static void longest(void) {
     expect_refusal("a byte more than the longest", file, KULDREPSO_MOST_BYTES + 1, KULDREPSO_MOST_CELLS, 6);
 }
 
-/* The longest file with other rewards, and from each state to the next one jump an hour. For each of the eight times
- * the level and the moments are those of the file with that time. */
+/* The longest file with other rewards, and from each state to the next about one jump an hour. */
+static void make_longest_ring(uint8_t *file) {
+    size_t k;
+    make_longest(file);
+    for (k = 0; k < 64; k++) {
+        put(file, 13 + 4 * k, 4, (uint32_t)(15625 * (k + 1)));
+        /* the diagonal is left out: the next state's rate is the k-th of row k, and the first of the last row */
+        put(file, 13 + 4 * 64 + 4 * (63 * k + k % 63), 4, (uint32_t)(1000000 - k));
+    }
+}
+
+/* For each of the eight times the level and the moments are those of the file with that time. */
 static void longest_series(void) {
     static const uint32_t eight[KULDREPSO_MOST_TIMES] = {1, 2, 12, 24, 72, 168, 255, 256};
     static uint8_t file[BYTES];
@@ -349,12 +463,7 @@ static void longest_series(void) {
                        KULDREPSO_MOST_TIMES * KULDREPSO_MOST_CELLS};
     struct lent more = all, fewer_levels = all, fewer_cells = all, too_long = all;
     size_t k;
-    make_longest(file);
-    for (k = 0; k < 64; k++) {
-        put(file, 13 + 4 * k, 4, (uint32_t)(15625 * (k + 1)));
-        /* the diagonal is left out: the next state's rate is the k-th of row k, and the first of the last row */
-        put(file, 13 + 4 * 64 + 4 * (63 * k + k % 63), 4, 1000000);
-    }
+    make_longest_ring(file);
     for (k = 0; k < KULDREPSO_MOST_TIMES; k++) {
         put(file, 9, 4, eight[k]);
         expected_levels[k] = kuldrepso_calculate(file, KULDREPSO_MOST_BYTES, expected + k * KULDREPSO_MOST_CELLS,
@@ -376,12 +485,40 @@ static void longest_series(void) {
     expect_series_refusal("a byte more than the longest, eight times", too_long, 6);
 }
 
+/* In the file without rates every division is even. The remainders of the other are from the independent calculation in
+ * tests/rust. */
+static void longest_remainders(void) {
+    static const struct question even[4] = {
+        {"the longest file, its last remainders", 64, 358, 8, KULDREPSO_GIVEN, {0, 0, 0}},
+        {"the longest file, a state more", 65, 358, 8, KULDREPSO_NONE, {0, 0, 0}},
+        {"the longest file, n = N + 1", 64, 359, 8, KULDREPSO_NONE, {0, 0, 0}},
+        {"the longest file, an r more", 64, 358, 9, KULDREPSO_NONE, {0, 0, 0}},
+    };
+    static const struct question ring[2] = {
+        {"the longest file with rates, the last state but one", 63, 358, 8, KULDREPSO_GIVEN, {945904, 906250, 28}},
+        {"the longest file with rates, the last state", 64, 358, 8, KULDREPSO_GIVEN, {178807, 0, 226}},
+    };
+    static const struct question more = {"a byte more than the longest, state 0", 0, 1, 1, KULDREPSO_REFUSED + 6,
+                                         {0, 0, 0}};
+    static uint8_t file[BYTES];
+    size_t k;
+    make_longest(file);
+    for (k = 0; k < 4; k++) expect_remainders(file, KULDREPSO_MOST_BYTES, &even[k]);
+    make_longest_ring(file);
+    put(file, 9, 4, 256);
+    for (k = 0; k < 2; k++) expect_remainders(file, KULDREPSO_MOST_BYTES, &ring[k]);
+    put(file, 0, 2, KULDREPSO_MOST_BYTES + 1 - 2);
+    expect_remainders(file, KULDREPSO_MOST_BYTES + 1, &more);
+}
+
 int main(void) {
     papers();
     series_papers();
+    remainders_papers();
     no_elements();
     longest();
     longest_series();
+    longest_remainders();
     if (faults > 0) {
         printf(LANGUAGE " test: %d calls, %d faults\n", calls, faults);
         return 1;
