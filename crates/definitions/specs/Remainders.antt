@@ -62,6 +62,12 @@ remaindersAnswer (answered.Given x) = accepted (given x)
 remaindersAnswer answered.Nothing = accepted none
 remaindersAnswer (answered.Refused k) = refused k
 
+-- document 02's value for each answer, of a number that one of the remainders is written to: what it holds after the call, from what it held before
+abbrev pub numberAfter : Answer (Maybe Rests) → (Rests → ℕ) → ℕ → ℕ
+numberAfter (accepted (given x)) which before = which x
+numberAfter (accepted none) which before = before
+numberAfter (refused k) which before = before
+
 -- the three divisions of U(n,r) at i with their remainders: each dividend, divisor and quotient is the one by which the vectors come about
 pub record Worked (ch : Chain) (n r i : ℕ) (x : Rests) : Type 0 where
   pub mean : Divides (meanDividend ch n r i) (ch .rate) (meanOf ch n r i) (x .mean)

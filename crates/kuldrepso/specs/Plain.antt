@@ -2,7 +2,9 @@
 use Prim.Native.Nat.{ℕ, _+_, _-_}
 use lib.Dec.{ltb}
 use Rattle.definitions.specs.Sums.{pick}
+use Rattle.definitions.specs.declared.Rests.{Rests}
 use Rattle.definitions.specs.Rules.{Answer, accepted, refused}
+use Rattle.definitions.specs.Remainders.{Maybe, none, given}
 
 -- what refusals start from
 abbrev pub refusalsFrom : ℕ
@@ -17,6 +19,12 @@ plainAnswer (refused k) = refusalsFrom + k
 abbrev pub returning : ℕ → Answer (Unit {0}) → Answer ℕ
 returning n (accepted tt) = accepted n
 returning n (refused k) = refused k
+
+-- remainders that are given go out as 0, and none as 1
+abbrev pub givenOrNone : Answer (Maybe Rests) → Answer ℕ
+givenOrNone (accepted (given x)) = accepted 0
+givenOrNone (accepted none) = accepted 1
+givenOrNone (refused k) = refused k
 
 -- the answer that a plain number stands for: below refusalsFrom an acceptance, any other a refusal
 unfoldable pub meant : ℕ → Answer ℕ

@@ -7,12 +7,19 @@ ghost use Rattle.definitions.specs.Rules.{seriesJudgement};
 ghost use Rattle.definitions.specs.Moment.{outcome, cellsAfter};
 ghost use Rattle.definitions.specs.Promise.{Promised};
 ghost use Rattle.definitions.specs.Series.{levelsAfter, blocksAfter, AreRuns, SeriesPromised};
-ghost use Rattle.kuldrepso.specs.Plain.{plainAnswer, returning};
+ghost use Rattle.definitions.specs.Remainders.{remaindersOf, numberAfter, WorkedOut};
+ghost use Rattle.kuldrepso.specs.Plain.{plainAnswer, returning, givenOrNone};
 use definitions::Outcome;
+use definitions::Remainders;
 use definitions::Series;
 
 // Refusal k goes out as this and k. No level and no count of times is near it: the greatest are 563 and 8.
 const REFUSED: u64 = 1_000_000;
+
+// Remainders that are given, and none.
+const GIVEN: u64 = 0;
+
+const NONE: u64 = 1;
 
 // moments::calculate, with the level N for an acceptance and REFUSED + k for refusal k.
 #[no_mangle]
@@ -44,5 +51,35 @@ pub extern "C" fn kuldrepso_series(
     match moments::series(file, times, levels, cells) {
         Series::Accepted => times.len() as u64,
         Series::Refused(k) => REFUSED + k as u64,
+    }
+}
+
+// remainders::remainders, with GIVEN, NONE and REFUSED + k for refusal k. Remainders that are given are written through the
+// three references, which else are as they were.
+#[no_mangle]
+pub extern "C" fn kuldrepso_remainders(
+    file: &[u8],
+    state: u64,
+    n: u64,
+    r: u64,
+    mean: &mut u64,
+    share: &mut u64,
+    mix: &mut u64,
+) -> u64
+    ensures answer { λ a. ⌜ a ≡ plainAnswer (givenOrNone (remaindersOf (now (file .entry)) state n r)) ⌝ }
+    ensures mean { λ a. ⌜ now (mean .exit) ≡ numberAfter (remaindersOf (now (file .entry)) state n r) (λ x. x .mean) (now (mean .entry)) ⌝ }
+    ensures share { λ a. ⌜ now (share .exit) ≡ numberAfter (remaindersOf (now (file .entry)) state n r) (λ x. x .share) (now (share .entry)) ⌝ }
+    ensures mix { λ a. ⌜ now (mix .exit) ≡ numberAfter (remaindersOf (now (file .entry)) state n r) (λ x. x .mix) (now (mix .entry)) ⌝ }
+    ensures worked { λ a. ⌜ WorkedOut (remaindersOf (now (file .entry)) state n r) (now (file .entry)) state n r ⌝ }
+{
+    match remainders::remainders(file, state, n, r) {
+        Remainders::Given(rests) => {
+            *mean = rests.mean;
+            *share = rests.share;
+            *mix = rests.mix;
+            GIVEN
+        }
+        Remainders::Nothing => NONE,
+        Remainders::Refused(k) => REFUSED + k as u64,
     }
 }

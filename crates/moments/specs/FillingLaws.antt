@@ -51,7 +51,7 @@ module _ (s times : List ℕ) (levels cells : ℕ) (g : AcceptedSeries s times l
   first = g .limits 0 (omega (arith, g .count-min))
 
   ready : Ready z c f
-  ready = rw (e .sizes, e .entries, e .rewards) (rw (sizes-at m (getD times 0 0), chain-at m (getD times 0 0)) at (model-ready (modelAt s times 0) l first (e .room)))
+  ready = rw (e .held .sizes, e .held .entries, e .held .rewards) (rw (sizes-at m (getD times 0 0), chain-at m (getD times 0 0)) at (model-ready (modelAt s times 0) l first (e .held .room)))
 
   is-jumps : (k : ℕ) → k < length times → getD xs k 0 ≡ jumpMillionths (modelAt s times k)
   unfolding jumpMillionths
@@ -62,8 +62,8 @@ module _ (s times : List ℕ) (levels cells : ℕ) (g : AcceptedSeries s times l
   solvable =
       record {
         ready = ready;
-        highest-pos = rw (e .sizes) (first .highest-pos);
-        highest-max = rw (e .sizes) (first .highest-max);
+        highest-pos = rw (e .held .sizes) (first .highest-pos);
+        highest-max = rw (e .held .sizes) (first .highest-max);
         truncatable = record {
           count-max = omega (arith, e .count, g .count-max);
           jumps-max = λ k h. let b : k < length times = omega (arith, h, e .count) in rw (is-jumps k b) (g .limits k b .jumps-max);
@@ -74,7 +74,7 @@ module _ (s times : List ℕ) (levels cells : ℕ) (g : AcceptedSeries s times l
 
   -- in the cells that are lent
   pub block-room : length xs * (z .states * z .highest) ≤ cells
-  block-room = rw (e .count, e .sizes) (g .block-room)
+  block-room = rw (e .count, e .held .sizes) (g .block-room)
 
   level-is : (k : ℕ) → k < length times → levelOf xs ε k ≡ levelAt s times k
   unfolding levelAt modelLevel
@@ -89,7 +89,7 @@ module _ (s times : List ℕ) (levels cells : ℕ) (g : AcceptedSeries s times l
   pub blocks-are : (before : List ℕ) → blocks (z .states * z .highest) (length xs) (meansOf (arrays z c f) xs ε (z .highest)) before ≡ blocksAfter (accepted tt) s times before
   unfolding blocksAfter
   blocks-are before =
-      rw (e .count, e .sizes, e .entries, e .rewards)
+      rw (e .count, e .held .sizes, e .held .entries, e .held .rewards)
       (blocks-same (blockSize s) (length times) _ _ before
       (λ k i hk hi.
       ap₂ (λ (X N : ℕ). cellMean (held m l) X (m .highest) N i) (e .jumps k hk) (level-is k hk)

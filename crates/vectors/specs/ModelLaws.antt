@@ -36,7 +36,7 @@ pub record Held (m : Model) (z : Sizes) (l c f : List ℕ) : Type 0 where
   pub entries : c ≡ flat (chainOf m) l
   pub rewards : f ≡ padded (m .states) (m .reward)
 
-model-ready : (m : Model) (l : List ℕ) → WithinLimits m → m .states * m .states ≤ length l → Ready (sizesOf m) (flat (chainOf m) l) (padded (m .states) (m .reward))
+pub model-ready : (m : Model) (l : List ℕ) → WithinLimits m → m .states * m .states ≤ length l → Ready (sizesOf m) (flat (chainOf m) l) (padded (m .states) (m .reward))
 unfolding flat
 model-ready m l limits room =
     let range : Stochastic (held m l) = stochastic-same (held m l) (chainOf m) (arrays-same m l (limits .states-max)) (stochastic m) in

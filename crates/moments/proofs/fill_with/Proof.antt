@@ -50,10 +50,12 @@ module _ (d : tie.After-write-jumps) where
   read : (ε : ℕ) → ε ≡ modelOf (start sized .args .file .now) .tolerance → ReadAs (modelOf (start sized .args .file .now)) times (sized .sizes-of .result) (start sized .args .chain .now) (d .before .before .before .before .before .write-chain .last .1 .1 .1 .0) (d .before .before .rewards-of .result) xs ε
   read ε e =
       record {
-        sizes = sized .sizes-of .ensures;
-        room = start sized .pre .1 .0;
-        entries = d .before .before .before .before .before .write-chain .ensures;
-        rewards = d .before .before .rewards-of .ensures;
+        held = record {
+          sizes = sized .sizes-of .ensures;
+          room = start sized .pre .1 .0;
+          entries = d .before .before .before .before .before .write-chain .ensures;
+          rewards = d .before .before .rewards-of .ensures;
+        };
         count = length-take-le (length times) _ xs-held;
         jumps = λ k h. getD-take (length times) _ k 0 h ∙ ap (λ (l : List ℕ). getD l k 0) (d .write-jumps .ensures) ∙ getD-over 0 (length times) _ _ k h ∙ ap (λ (E : ℕ). E * getD times k 0) (rate-read sized);
         tolerance = e;
