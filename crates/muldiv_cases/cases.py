@@ -5,7 +5,7 @@ Run from the root of the repository:
 
     python3 crates/muldiv_cases/cases.py && rt fmt
 
-Python's whole numbers have no width, so a quotient is one expression here. The number of cases also
+Python's whole numbers have no width, so a division is one expression here. The number of cases also
 stands in proofs/quotients/Proof.antt, twice, and that of the terms in proofs/terms/Proof.antt.
 """
 
@@ -16,11 +16,15 @@ LIMIT = 2**62  # a, b and c stay below this
 WIDE = 2**64  # and the quotient below this
 
 
+def line(quotient, remainder):
+    return "%d %d" % (quotient, remainder)
+
+
 def expected(a, b, c):
     if c == 0 or a >= LIMIT or b >= LIMIT or c >= LIMIT:
         return "none"
-    quotient = a * b // c
-    return "none" if quotient >= WIDE else str(quotient)
+    quotient, remainder = divmod(a * b, c)
+    return "none" if quotient >= WIDE else line(quotient, remainder)
 
 
 def cases():
@@ -62,7 +66,7 @@ def cases():
 
 
 def terms():
-    """w up to 10^15 and u up to 10^12, for w * u over 10^12."""
+    """w up to 10^15 and u up to 10^12, for w * u by 10^12."""
     most_w, most_u, part = 10**15, 10**12, 10**6
     rows = [
         (0, 0), (0, most_u), (most_w, 0), (1, most_u), (most_w, 1), (most_w, most_u), (most_w - 1, most_u - 1), (1, most_u - 1),
@@ -101,7 +105,7 @@ def main():
         out.write("\n".join(table(name, [pair[k] for pair in pairs]) for k, name in enumerate("WU")))
     with open(os.path.join(here, "stdout"), "w") as out:
         out.writelines(expected(*row) + "\n" for row in rows)
-        out.writelines("%d\n" % (w * u // 10**12) for w, u in pairs)
+        out.writelines(line(*divmod(w * u, 10**12)) + "\n" for w, u in pairs)
 
 
 main()

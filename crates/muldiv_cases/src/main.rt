@@ -1,4 +1,5 @@
-// Writes mul_div's answer for each case of cases.py, one to a line, "none" for Nothing; then over_trillion's.
+// Writes mul_div's answer for each case of cases.py, one to a line: quotient and remainder, or "none" for Nothing; then
+// over_trillion's.
 mod cases;
 
 use cases::A;
@@ -9,18 +10,24 @@ use cases::TERMS;
 use cases::U;
 use cases::W;
 use libc::STDOUT_FILENO;
-use muldiv::Quotient;
+use muldiv::Divided;
+
+fn line(quotient: u64, remainder: u64) {
+    io::print_decimal(STDOUT_FILENO, quotient);
+    io::write_all(STDOUT_FILENO, b" ");
+    io::print_decimal(STDOUT_FILENO, remainder);
+    io::write_all(STDOUT_FILENO, b"\n");
+}
 
 fn show(a: u64, b: u64, c: u64) {
     match muldiv::mul_div(a, b, c) {
-        Quotient::Of(q) => {
-            io::print_decimal(STDOUT_FILENO, q);
+        Divided::Into(d) => {
+            line(d.quotient, d.remainder);
         }
-        Quotient::Nothing => {
-            io::write_all(STDOUT_FILENO, b"none");
+        Divided::Nothing => {
+            io::write_all(STDOUT_FILENO, b"none\n");
         }
     }
-    io::write_all(STDOUT_FILENO, b"\n");
 }
 
 fn quotients() {
@@ -33,8 +40,8 @@ fn show_term(w: u64, u: u64) {
     if w > 1_000_000_000_000_000 || u > 1_000_000_000_000 {
         return;
     }
-    io::print_decimal(STDOUT_FILENO, muldiv::over_trillion(w, u));
-    io::write_all(STDOUT_FILENO, b"\n");
+    let term = muldiv::over_trillion(w, u);
+    line(term.quotient, term.remainder);
 }
 
 fn terms() {

@@ -29,9 +29,13 @@ returns c =
     let args = called .before .before .args in
     let is = answered called _ (c .before .rests .given .1) in (
       omega (arith, ap plain is),
-      (omega (arith, ap (after (λ x. x .mean) (args .mean .now)) is),
-      (omega (arith, ap (after (λ x. x .share) (args .share .now)) is),
-      (omega (arith, ap (after (λ x. x .mix) (args .mix .now)) is), rw (called .remainders .ensures .0) at (called .remainders .ensures .1)))),
+      (
+        omega (arith, ap (after (λ x. x .mean) (args .mean .now)) is),
+        (
+          omega (arith, ap (after (λ x. x .share) (args .share .now)) is),
+          (omega (arith, ap (after (λ x. x .mix) (args .mix .now)) is), rw (called .remainders .ensures .0) at (called .remainders .ensures .1)),
+        ),
+      ),
     )
 
 returns-2 : tie.Need-returns-2
@@ -41,9 +45,13 @@ returns-2 c =
     let args = called .before .before .args in
     let is = answered called _ (c .enum-told .given .1) in (
       omega (arith, ap plain is),
-      (omega (arith, ap (after (λ x. x .mean) (args .mean .now)) is),
-      (omega (arith, ap (after (λ x. x .share) (args .share .now)) is),
-      (omega (arith, ap (after (λ x. x .mix) (args .mix .now)) is), rw (called .remainders .ensures .0) at (called .remainders .ensures .1)))),
+      (
+        omega (arith, ap (after (λ x. x .mean) (args .mean .now)) is),
+        (
+          omega (arith, ap (after (λ x. x .share) (args .share .now)) is),
+          (omega (arith, ap (after (λ x. x .mix) (args .mix .now)) is), rw (called .remainders .ensures .0) at (called .remainders .ensures .1)),
+        ),
+      ),
     )
 
 returns-3 : tie.Need-returns-3
@@ -53,9 +61,13 @@ returns-3 c =
     let args = called .before .before .args in
     let is = answered called _ (c .before .k .given .1) in (
       omega (arith, ap plain is),
-      (omega (arith, ap (after (λ x. x .mean) (args .mean .now)) is),
-      (omega (arith, ap (after (λ x. x .share) (args .share .now)) is),
-      (omega (arith, ap (after (λ x. x .mix) (args .mix .now)) is), rw (called .remainders .ensures .0) at (called .remainders .ensures .1)))),
+      (
+        omega (arith, ap (after (λ x. x .mean) (args .mean .now)) is),
+        (
+          omega (arith, ap (after (λ x. x .share) (args .share .now)) is),
+          (omega (arith, ap (after (λ x. x .mix) (args .mix .now)) is), rw (called .remainders .ensures .0) at (called .remainders .ensures .1)),
+        ),
+      ),
     )
 
 pub kuldrepso-remainders-spec : {M : Type 1} → statement M
