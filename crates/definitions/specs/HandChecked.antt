@@ -1,6 +1,6 @@
 -- "Hand-checked files": the ten starred entries, as one list and one statement over it, B's moments being those of document 02, S-1.
--- Beside them, and apart from the ten, the average of B, the places "Where hand solutions go wrong", the last quotient's rounding, and B with
--- lists of times (document 02, S-3).
+-- Beside them, and apart from the ten, the average of B, the places "Where hand solutions go wrong", the last quotient's rounding, B with
+-- lists of times (document 02, S-3), and what divisions leave (S-4).
 use Prim.Native.Nat.{ℕ, _<_}
 use mathlib.Core.List.{List, [], _∷_}
 use mathlib.Core.Logic.{_≢_}
@@ -18,6 +18,7 @@ use Rattle.definitions.specs.Weights.{mode, rightward, leftward, weight,
 use Rattle.definitions.specs.Level.{tailBound, allowance, passes?, firstFrom, level}
 use Rattle.definitions.specs.Moment.{term, weighted, nearest, lastQuotient, weightedMean, moment, cell, modelLevel, outcome, cellsAfter}
 use Rattle.definitions.specs.Series.{levelAt, levelsAfter, blocksAfter}
+use Rattle.definitions.specs.Remainders.{meanOf, shareOf, restsAt, none, given, restsOf, remaindersOf, numberAfter}
 use Rattle.definitions.specs.Fraction.{Same, ratio, total, power}
 use Rattle.definitions.specs.Average.{exactMean, exactShare, exactMix, exactFirst, exactNext, exactU, factorial, exactWeight, averageOf, average}
 use Rattle.definitions.specs.Sheet.{digit, digits, places, decimal, figure, momentLine, momentLines, levelLine, sheetOf, sheet, printedSheet}
@@ -188,3 +189,58 @@ stopped-untouched = (refl, refl)
 pub own-time-unused : (seriesJudgement (set (set fileB 11 1) 12 1) (1 ∷ []) 1 4 ≡ accepted tt) × (judgement (set (set fileB 11 1) 12 1) 4 ≡ refused 12)
 unfolding sum largest anyAbove big jumpRate rowSum uniformRate framing quantities fallsUpTo listing jumps room rows seriesRows firstHeld judgement seriesJudgement
 own-time-unused = (refl, refl)
+
+-- B with the rewards 3 and 2 and the rates 700,000 and 600,000: E is 700,000, F is 3, and the level is 2
+abbrev pub unevenB : List ℕ
+unevenB = set (set (set (set (set (set (set (set fileB 16 3) 20 2) 22 0x0A) 23 0xAE) 24 0x60) 26 0x09) 27 0x27) 28 0xC0
+
+abbrev pub unevenChain : Chain
+unevenChain = chainOf (modelOf unevenB)
+
+-- at state 2, counted from 1, each division of U(2,1) leaves something: 580952380952100000 is 829931972788 × 700,000 and 500,000;
+-- 2 × 10^12 is 666666666666 × 3 and 2; 2 × 829931972788 + 666666666666 is 775510204080 × 3 and 2
+pub uneven-rests : remaindersOf unevenB 2 2 1 ≡ accepted (given (record { mean = 500000; share = 2; mix = 2 }))
+unfolding sum largest anyAbove big jumpRate rowSum uniformRate c maxReward jumpMillionths framing quantities jumps firstHeld rowMean rewardShare mix nextEntry firstVectors nextVectors U mode rightward leftward weight weightSum tailBound allowance passes? firstFrom level modelLevel restsAt restsOf remaindersOf
+uneven-rests = refl
+
+pub uneven-quotients : (meanOf unevenChain 2 1 1 ≡ 829931972788) × (shareOf unevenChain 2 1 1 ≡ 666666666666) × (U unevenChain 2 1 1 ≡ 775510204080)
+unfolding sum largest big jumpRate rowSum uniformRate c maxReward rowMean rewardShare mix nextEntry firstVectors nextVectors U
+uneven-quotients = (refl, refl, refl)
+
+-- what is asked of a file: a state, n and r
+pub record Asked : Type 0 where
+  pub file : List ℕ
+  pub state : ℕ
+  pub jumps : ℕ
+  pub moment : ℕ
+
+abbrev pub NoneOf : List Asked → Type 0
+NoneOf [] = Unit {0}
+NoneOf (a ∷ rest) = (remaindersOf (a .file) (a .state) (a .jumps) (a .moment) ≡ accepted none) × NoneOf rest
+
+-- none past each limit, B's level being 3, and at 0
+abbrev pub asked-outside : List Asked
+asked-outside =
+    record { file = fileB; state = 0; jumps = 1; moment = 1 }
+    ∷ record { file = fileB; state = 3; jumps = 1; moment = 1 }
+    ∷ record { file = fileB; state = 0xFFFFFFFFFFFFFFFF; jumps = 1; moment = 1 }
+    ∷ record { file = fileB; state = 1; jumps = 0; moment = 1 }
+    ∷ record { file = fileB; state = 1; jumps = 4; moment = 1 }
+    ∷ record { file = fileB; state = 1; jumps = 0x100000001; moment = 1 }
+    ∷ record { file = fileB; state = 1; jumps = 1; moment = 0 }
+    ∷ record { file = fileB; state = 1; jumps = 1; moment = 3 }
+    ∷ record { file = unevenB; state = 2; jumps = 3; moment = 1 }
+    ∷ []
+
+pub outside-none : NoneOf asked-outside
+unfolding sum largest anyAbove big jumpRate rowSum uniformRate c maxReward jumpMillionths framing quantities jumps firstHeld mode rightward leftward weight weightSum tailBound allowance passes? firstFrom level modelLevel restsOf remaindersOf
+outside-none = (refl, (refl, (refl, (refl, (refl, (refl, (refl, (refl, (refl, tt)))))))))
+
+-- a file's refusal comes before all else
+pub refusals-first : (remaindersOf (set fileB 2 9) 0 0 0 ≡ refused 3) × (remaindersOf (set fileB 16 0) 3 4 3 ≡ refused 10) × (remaindersOf (set (set fileB 11 1) 12 1) 1 1 1 ≡ refused 12)
+unfolding sum largest anyAbove big jumpRate rowSum uniformRate framing quantities jumps firstHeld remaindersOf
+refusals-first = (refl, refl, refl)
+
+-- remainders that are given are written; else the numbers stay
+pub numbers-after : (numberAfter (accepted (given (record { mean = 5; share = 2; mix = 1 }))) (λ x. x .share) 7 ≡ 2) × (numberAfter (accepted none) (λ x. x .share) 7 ≡ 7) × (numberAfter (refused 3) (λ x. x .share) 7 ≡ 7)
+numbers-after = (refl, refl, refl)

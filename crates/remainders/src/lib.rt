@@ -23,11 +23,10 @@ fn rests_at(sizes: Sizes, chain: &[u32], rewards: &[u64; 64], n: u64, r: usize, 
     let zeros = [0u64; 64];
     let mut table = [zeros; 9];
     vectors::table_at(sizes, chain, rewards, n - 1, &mut table);
-    let before = table[r];
+    let before = table;
     vectors::next_table(sizes, chain, rewards, n, &mut table);
-    let same = table[r - 1];
-    let v = vectors::row_mean(sizes, chain, &before, i);
-    let w = vectors::reward_share(rewards[i], same[i], sizes.largest);
+    let v = vectors::row_mean(sizes, chain, &before[r], i);
+    let w = vectors::reward_share(rewards[i], table[r - 1][i], sizes.largest);
     let u = vectors::mix(n, r as u64, v.quotient, w.quotient);
     Rests {
         mean: v.remainder,

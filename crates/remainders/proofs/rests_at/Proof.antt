@@ -25,20 +25,20 @@ use Rattle.remainders.proofs.rests_at.Tie as tie
 -- the two vectors that the divisions read, U(n−1,r) and U(n,r−1)
 module _ (d : tie.After-next-table) where
   abbrev start : tie.Start
-  start = d .before .before .before .before .before .before
+  start = d .before .before .before .before .before
 
   abbrev ch : Chain
   ch = arrays (start .args .sizes) (start .args .chain .now) (start .args .rewards .now)
 
   abbrev before : List ℕ
-  before = getD (d .before .before .before .table-at .last .1 .1 .1 .1 .0) (start .args .r) []
+  before = getD (d .before .before .table-at .last .1 .1 .1 .1 .0) (start .args .r) []
 
   abbrev same : List ℕ
   same = getD (d .next-table .last .1 .1 .1 .1 .0) (start .args .r - 1) []
 
   is-before : before ≡ vector ch (start .args .n - 1) (start .args .r)
   is-before =
-      ap (λ (t : List (List ℕ)). getD t (start .args .r) []) (d .before .before .before .table-at .ensures)
+      ap (λ (t : List (List ℕ)). getD t (start .args .r) []) (d .before .before .table-at .ensures)
       ∙ table-row ch (start .args .sizes .highest) (start .args .n - 1) (omega arith) (start .args .r) (omega arith)
 
   is-same : same ≡ vector ch (start .args .n) (start .args .r - 1)
@@ -75,7 +75,7 @@ table-at-requires c κs =
 
 row-mean-requires : tie.Need-row-mean-requires
 row-mean-requires c κs =
-    let d = c .before .before in
+    let d = c .before in
     row-ready (step-ready d) (start d .args .i) (omega arith)
 
 reward-share-requires : tie.Need-reward-share-requires
@@ -89,7 +89,7 @@ mix-requires : tie.Need-mix-requires
 unfolding rowMean rewardShare
 mix-requires c κs =
     let d = c .before .before .before .before .before in
-    mix-ready (step-ready d) (start d .args .i) (omega arith) _ _ (ap quotient (c .before .before .row-mean .ensures (start d .args .rewards .now))) (ap quotient (c .reward-share .ensures))
+    mix-ready (step-ready d) (start d .args .i) (omega arith) _ _ (ap quotient (c .before .before .before .row-mean .ensures (start d .args .rewards .now))) (ap quotient (c .reward-share .ensures))
 
 -- V, W and U, and what each leaves
 module _ (c : tie.After-mix) where
@@ -109,13 +109,13 @@ module _ (c : tie.After-mix) where
   i = begin .args .i
 
   abbrev mean : Division
-  mean = c .before .before .before .row-mean .result
+  mean = c .before .before .before .before .row-mean .result
 
   abbrev share : Division
   share = c .before .reward-share .result
 
   abbrev mean-divided : mean ≡ division (rowTotal (ch d) (entryOf (before d)) i) (begin .args .sizes .rate)
-  mean-divided = c .before .before .before .row-mean .ensures (begin .args .rewards .now)
+  mean-divided = c .before .before .before .before .row-mean .ensures (begin .args .rewards .now)
 
   mean-is : mean .quotient ≡ meanOf (ch d) n r i
   unfolding rowMean
@@ -144,13 +144,13 @@ rests-at-spec =
     (tie.spec
     (λ c. search needs)
     table-at-requires
-    (λ c. search needs)
-    (λ c. search needs)
     (λ c κs. search needs)
     (λ c. search needs)
     (λ c. search needs)
-    (λ c. search needs)
     row-mean-requires
+    (λ c. search needs)
+    (λ c. search needs)
+    (λ c. search needs)
     (λ c. search needs)
     (λ c. search needs)
     (λ c. search needs)
