@@ -1,8 +1,10 @@
 """The stored calls of the comparison kit: inputs of the library's calls, by name, and what the reference gives.
 
-A name that begins with refused-NN tells the row that is answered; the others are accepted.
+A name that begins with refused-NN tells the row that is answered; the others are accepted. Of remainders, a name that
+begins with none is answered so; with the others the three rests are given.
 """
 
+import itertools
 import random
 
 import calculator
@@ -10,7 +12,7 @@ import cases
 import edges
 import inputs
 import models
-from inputs import MAX_WORD, MAX_X, ROWS, Input
+from inputs import LARGEST, MAX_WORD, MAX_X, MOST, NUMBERS, ROWS, Input
 
 A = bytes.fromhex("000F010101000027100000000100000005")
 B = bytes.fromhex("001B01020205F5E100000000010000000100000000000F4240000F4240")
@@ -36,6 +38,15 @@ def series(name, file, times, levels=None, cells=None):
 
 def calculate(name, file, cells):
     return Input(name, "calculate", dict(file=file, cells=cells))
+
+
+def remainders(name, file, state, n, r):
+    return Input(name, "remainders", inputs.asked(file, state=state, n=n, r=r))
+
+
+def at(word, file, state, n, r):
+    """A call of remainders whose name tells its numbers."""
+    return remainders(f"{word}-state-{state}-n-{n}-r-{r}", file, state, n, r)
 
 
 def three_states(R, T=1, tolerance=1_000):
@@ -322,7 +333,204 @@ def calculate_before_13():
 
 CALCULATE = (calculate_row_13, calculate_before_13)
 
-GROUPS = {"calculate": CALCULATE, "series": SERIES}
+
+# --- Remainders: models -----------------------------------------------------------------------------------
+
+def leaving():
+    """Divisors that leave rests nearly everywhere; the level is 19."""
+    return models.build(1, 3, 3, 1_000, 40, [500_000, 999_983, 31], [[70_001, 3], [90_007, 11], [60_000, 63_457]])
+
+
+def small_divisors():
+    """E is 7 and F is 5."""
+    return models.build(1, 3, 4, 1_000, 2_000_000, [5, 3, 2], [[1, 3], [4, 2], [2, 5]])
+
+
+def largest_rate():
+    """E is 10,000,000 and F 1,000,000, the largest divisors; every sum of V is past 2^63."""
+    return models.build(1, 2, 8, 1, 25, [1_000_000, 999_999], [[10_000_000], [3_333_337]])
+
+
+def longest():
+    """q is 256 and the tolerance the least: the level is 358, and n + r up to 366."""
+    return models.build(1, 3, 8, 1, 32, [1_000_000, 999_983, 3],
+                        [[7_999_999, 1], [1_234_567, 7], [3, 3_141_592]])
+
+
+def near_rewards():
+    """Rewards next to each other and a prime E next to the largest."""
+    return models.build(1, 3, 4, 1_000, 25, [1_000_000, 999_999, 999_901],
+                        [[9_999_990, 1], [1_234_567, 7], [3, 3_141_592]])
+
+
+def one_state():
+    return models.build(1, 1, 8, 1_000, 3_000_000, [5], [[]])
+
+
+def absorbing():
+    """Nothing leads out of state 3."""
+    return models.build(1, 3, 3, 1_000, 20, [4, 9, 7], [[500_000, 7], [100, 300_000], [0, 0]])
+
+
+def no_rates():
+    """E is 1; state 2 has no reward."""
+    return models.build(1, 3, 3, 1_000, 3_000_000, [7, 0, 3], [[0, 0]] * 3)
+
+
+def states_64():
+    return own_time(states(64, 8), 1_000)
+
+
+# --- Remainders: the three rests given ---------------------------------------------------------------------
+
+def remainders_hand():
+    """The whole worked tables of files A and B."""
+    for word, file in (("hand-A", A), ("hand-B", B)):
+        for line in calculator.worked(file).lines:
+            yield at(word, file, line.state, line.n, line.r)
+
+
+def remainders_corners():
+    """The first and the last state, n and r of three states, and numbers between them."""
+    file = leaving()
+    for numbers in itertools.product(*((1, limit) for limit in inputs.limits(file).values())):
+        yield at("corner", file, *numbers)
+    yield at("between", file, 2, 9, 2)
+
+
+# What may hold of a line with the divisors E and F.
+HOLDS = {
+    "all-0": lambda line, E, F: line.rest_V == line.rest_W == line.rest_U == 0,
+    "mean-alone-0": lambda line, E, F: line.rest_V == 0 < line.rest_W * line.rest_U,
+    "share-alone-0": lambda line, E, F: line.rest_W == 0 < line.rest_V * line.rest_U,
+    "mix-alone-0": lambda line, E, F: line.rest_U == 0 < line.rest_V * line.rest_W,
+    "mean-largest": lambda line, E, F: line.rest_V == E - 1,
+    "share-largest": lambda line, E, F: line.rest_W == F - 1,
+    "mix-largest": lambda line, E, F: line.rest_U == line.n + line.r - 1,
+    "all-equal": lambda line, E, F: line.rest_V == line.rest_W == line.rest_U > 0,
+}
+
+
+def remainders_rests():
+    """For each of HOLDS the last line of a worked table of which it holds."""
+    file = small_divisors()
+    table = calculator.worked(file)
+    for word, holds in HOLDS.items():
+        line = [line for line in table.lines if holds(line, table.E, table.F)][-1]
+        yield at(f"rests-{word}", file, line.state, line.n, line.r)
+
+
+def remainders_models():
+    """The range of models: their first numbers and their last."""
+    for word, file, all_numbers in (
+            ("1-state", one_state(), ((1, 1, 8), (1, 13, 8))),
+            ("no-rates", no_rates(), ((1, 13, 3), (2, 13, 2), (3, 1, 3), (3, 13, 3))),
+            ("absorbing", absorbing(), ((1, 28, 3), (2, 9, 2), (3, 1, 3), (3, 28, 3))),
+            ("largest-rate", largest_rate(), ((2, 1, 8), (2, 350, 3), (2, 351, 8))),
+            ("longest", longest(), ((3, 2, 7), (3, 258, 3), (2, 357, 5), (3, 358, 8))),
+            ("near-rewards", near_rewards(), ((1, 2, 4), (2, 2, 2), (3, 329, 4))),
+            ("states-64", states_64(), ((64, 2, 1), (64, 4, 8)))):
+        for numbers in all_numbers:
+            yield at(word, file, *numbers)
+    yield at("border-12-B", own_time(B, 256), 2, 2, 2)
+    yield at("border-12-rate-1", own_time(slow_pair(2), MAX_X), 1, 2, 2)
+
+
+def remainders_levels():
+    """Levels that are decided by little: where t meets its bound at n, the next n is outside, where it misses it by one
+    the next n is the last; and the level 1, that of the least jump counts."""
+    for row in edges.LEVEL_ROWS[12:18]:
+        name, (n, miss) = row.name.replace("edge", "by-little"), row.holds[0]
+        file = models.build(**models.edge_fields(row))
+        yield remainders(name if miss > 0 else f"none-{name}", file, 1, n + 1, 1)
+    least = put(own_time(no_rates(), 1), 5, 4, 10_000)
+    yield remainders("level-1", least, 3, 1, 3)
+    yield remainders("none-level-1", least, 3, 2, 3)
+    yield remainders("none-level-1-A", A, 1, 2, 1)
+
+
+# --- Remainders: none ----------------------------------------------------------------------------------------
+
+# Where a number is outside, by its limit; the others are 1, or their limit where the name ends so, or for 0.
+OUTSIDE = {
+    "0": lambda limit: 0,
+    "one-past": lambda limit: limit + 1,
+    "2-8-and-1": lambda limit: 2**8 + 1,
+    "2-16-and-limit": lambda limit: 2**16 + limit,
+    "2-32-and-1": lambda limit: 2**32 + 1,
+    "2-32-and-limit": lambda limit: 2**32 + limit,
+    "2-63": lambda limit: 2**63,
+    "largest": lambda limit: LARGEST,
+}
+
+
+def outside(word, file, names, place):
+    """A call with some numbers at a place of OUTSIDE."""
+    limit = inputs.limits(file)
+    others = limit if place == "0" or place.endswith("limit") else dict.fromkeys(NUMBERS, 1)
+    numbers = {**others, **{name: OUTSIDE[place](limit[name]) for name in names}}
+    return remainders(f"none-{word}{'-and-'.join(names)}-{place}", file, **numbers)
+
+
+def remainders_none():
+    """One number outside, two, and all."""
+    file = leaving()
+    for name in NUMBERS:
+        for place in OUTSIDE:
+            yield outside("", file, [name], place)
+        for place in ("0", "one-past"):
+            yield outside("B-", B, [name], place)
+    for names in (*itertools.combinations(NUMBERS, 2), NUMBERS):
+        for place in ("0", "one-past"):
+            yield outside("", file, names, place)
+    for place in ("2-32-and-1", "largest"):
+        yield outside("", file, NUMBERS, place)
+    yield remainders("none-state-0-r-one-past", file, 0, 1, 4)
+    yield remainders("none-state-one-past-r-0", file, 4, 1, 0)
+    for n in (53, 563, 1_024, 1_025):
+        yield remainders(f"none-B-n-{n}", B, 1, n, 1)
+    yield remainders("none-longest-n-one-past", longest(), 3, 359, 8)
+    yield remainders("none-states-64-state-65", states_64(), 65, 4, 8)
+
+
+# --- Remainders: the refusals come first -----------------------------------------------------------------------
+
+# Numbers that are outside of every file.
+FAR = [tuple(OUTSIDE[place](limit) for limit in MOST.values()) for place in ("0", "one-past", "2-32-and-1", "largest")]
+
+
+def alone(row):
+    """File B with this row broken; row 12 by the time 257."""
+    return broken({row}) if row < 12 else own_time(B, 257)
+
+
+def with_later(row):
+    """File B with this row broken, and the later ones that it can break as well."""
+    if row == 1:
+        return with_later(2)[:12]
+    if row < 9:
+        return broken(set(range(row, 12)))
+    return own_time(broken({row, 11}) if row < 12 else B, 257)
+
+
+def remainders_rows():
+    """Every row alone, with later ones, and so with numbers that are outside of every file; the last row with each
+    number outside alone."""
+    order = ROWS["remainders"]
+    for row in order:
+        yield remainders(f"refused-{row:02d}", alone(row), 1, 1, 1)
+        yield remainders(f"refused-{row:02d}-outside", with_later(row), *FAR[row % len(FAR)])
+    for row in order[:-1]:
+        yield remainders(f"refused-{row:02d}-before-later", with_later(row), 1, 1, 1)
+    for name in NUMBERS:
+        yield remainders(f"refused-12-{name}-outside", alone(12), **{**dict.fromkeys(NUMBERS, 1), name: MOST[name] + 1})
+    yield remainders("refused-01-empty-outside", b"", 0, 0, 0)
+
+
+REMAINDERS = (remainders_hand, remainders_corners, remainders_rests, remainders_models, remainders_levels,
+              remainders_none, remainders_rows)
+
+GROUPS = {"calculate": CALCULATE, "remainders": REMAINDERS, "series": SERIES}
 
 
 def named(call):
@@ -336,16 +544,21 @@ def named(call):
     return list(result.values())
 
 
-def row_named(name):
-    """The row that a name tells, or 0, for an accepted call."""
+def end_named(name):
+    """The end that a name tells: the row of a refusal, "none", or 0, for any other accepted call."""
     word, _, rest = name.partition("-")
-    return int(rest[:2]) if word == "refused" else 0
+    return int(rest[:2]) if word == "refused" else "none" if word == "none" else 0
+
+
+def end_of(call, answer):
+    """The same of an answer."""
+    return "none" if call == "remainders" and answer == calculator.NONE else inputs.row_of(answer)
 
 
 def case(each):
-    """The case of an input with what the reference gives; a ValueError where its name tells another row."""
+    """The case of an input with what the reference gives; a ValueError where its name tells another end."""
     result = inputs.outcome(calculator, each.call, each.given)
-    if inputs.row_of(result[0]) != row_named(each.name):
+    if end_of(each.call, result[0]) != end_named(each.name):
         raise ValueError(f"{each.call} {each.name}: the reference answers {result[0]}")
     return cases.case(*each, result, inputs.outcome(calculator, each.call, each.given, other=True))
 
