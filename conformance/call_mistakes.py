@@ -1,11 +1,13 @@
-"""The tables of wrong calls for call_mutants.py: each the reference's series or calculate with one thing changed.
+"""The tables of wrong calls for call_mutants.py: each the reference's series or calculate with one thing changed, and
+those of remainders from remainders_mistakes.py.
 
 As in mistakes.py, an entry names the mistake, says it in a line and gives its changes in the text of
-reference/calculator.py. TABLE holds the mistakes by call; EQUIVALENT the changes of series that no call can show, each
-with the reason.
+reference/calculator.py. TABLE holds the mistakes by call, LEFT_OUT the changes that no call can show, each with the
+reason; EQUIVALENT are those of series.
 """
 
 import mistakes
+import remainders_mistakes
 from mistakes import ROWS as FILE_ROWS
 from mistakes import wrong
 
@@ -90,7 +92,8 @@ def half_down(a, b):
     return -((b - 2 * a) // (2 * b))
 
 
-HELPERS = (*mistakes.HELPERS, last_product, moments_of, with_time_1, swapped_bytes, fill, lay, half_down)
+HELPERS = (*mistakes.HELPERS, *remainders_mistakes.HELPERS, last_product, moments_of, with_time_1, swapped_bytes, fill,
+           lay, half_down)
 
 
 # --- Series: the refusal table -------------------------------------------------------------------------
@@ -501,4 +504,5 @@ def by_name(entries):
     return result
 
 
-TABLE = {"calculate": by_name(CALCULATE), "series": by_name(SERIES)}
+TABLE = {"calculate": by_name(CALCULATE), "remainders": by_name(remainders_mistakes.TABLE), "series": by_name(SERIES)}
+LEFT_OUT = {"remainders": remainders_mistakes.EQUIVALENT, "series": EQUIVALENT}

@@ -21,7 +21,7 @@ import inputs  # noqa: E402
 import mutants  # noqa: E402
 import run_calls  # noqa: E402
 import runner  # noqa: E402
-from call_mistakes import EQUIVALENT, RIGHT, TABLE  # noqa: E402
+from call_mistakes import LEFT_OUT, RIGHT, TABLE  # noqa: E402
 
 ENOUGH = 2        # stored calls that have to catch a wrong one
 
@@ -60,11 +60,11 @@ def judge(call, entry, kit):
     return len(found) >= ENOUGH
 
 
-def judge_equivalent(entry, kit):
+def judge_equivalent(call, entry, kit):
     """Prints why no call can show the change; whether that is so for the stored ones."""
     found = catches(entry, kit, 1)
     verdict = f"yet {found[0]} catches it" if found else "left out, no call can show it"
-    print(f"series {entry.name}: {verdict}: {entry.what}", flush=True)
+    print(f"{call} {entry.name}: {verdict}: {entry.what}", flush=True)
     return not found
 
 
@@ -80,17 +80,18 @@ def main(arguments):
             print(f"{call}: a stored call catches the reference itself")
         wrong = [entry.name for call, table in TABLE.items() for entry in table.values()
                  if not judge(call, entry, kits[call])]
-        same = [entry.name for entry in EQUIVALENT if not judge_equivalent(entry, kits["series"])]
+        same = [entry.name for call, entries in LEFT_OUT.items() for entry in entries
+                if not judge_equivalent(call, entry, kits[call])]
     except ValueError as error:        # a text of call_mistakes.py that is wrong
         print(f"call_mutants.py: {error}", file=sys.stderr)
         return 2
-    total = sum(map(len, TABLE.values()))
+    total, left_out = (sum(map(len, table.values())) for table in (TABLE, LEFT_OUT))
     if wrong:
         print(f"{len(wrong)} of {total} wrong calls are caught by fewer than two stored calls: {', '.join(wrong)}")
     if same:
-        print(f"{len(same)} of {len(EQUIVALENT)} changes that no call can show are caught: {', '.join(same)}")
+        print(f"{len(same)} of {left_out} changes that no call can show are caught: {', '.join(same)}")
     if not (bad or wrong or same):
-        print(f"{total} wrong calls, each caught by two stored calls or more; {len(EQUIVALENT)} changes left out")
+        print(f"{total} wrong calls, each caught by two stored calls or more; {left_out} changes left out")
     return 1 if bad or wrong or same else 0
 
 
