@@ -1,5 +1,5 @@
 #!/usr/bin/env python3
-"""Tests of the runner: python3 conformance/test_runner.py"""
+"""Tests of the runner and of the stored calls' names: python3 conformance/test_runner.py"""
 
 import os
 import shutil
@@ -16,6 +16,10 @@ ROOT = os.path.dirname(HERE)
 sys.path.insert(0, HERE)
 
 import runner  # noqa: E402
+import run_calls  # noqa: E402
+import call_cases  # noqa: E402
+import cases  # noqa: E402
+import inputs  # noqa: E402
 
 FILE = bytes(k % 251 for k in range(16_397))
 
@@ -209,6 +213,28 @@ class Programs(unittest.TestCase):
                        self.run_program("run.py", "no-such-command"), self.compare("no-such-command"),
                        self.compare("--seed", "1", "--fresh", *REFERENCE), self.compare("--program", *REFERENCE)):
             self.assertEqual((result.returncode, result.stderr.count("\n")), (2, 1))
+
+
+class StoredCalls(unittest.TestCase):
+
+    def test_names_tell_their_ends(self):
+        right = {"hand": (call_cases.B, 3), "none": (call_cases.B, 4), "refused-01": (b"", 3), "refused-02": (FILE, 3)}
+        for name, (file, n) in right.items():
+            each = call_cases.remainders(name, file, 1, n, 1)
+            self.assertEqual(call_cases.case(each).name, name)
+            for other in right.keys() - {name}:
+                with self.assertRaises(ValueError):
+                    call_cases.case(each._replace(name=other))
+
+    def test_an_accepted_call_that_answers_1_is_not_none(self):
+        for each in (call_cases.calculate("level-1", call_cases.A, 1), call_cases.series("1-time", call_cases.B, [1])):
+            self.assertEqual(call_cases.case(each).answer, 1)
+
+    def test_every_end_of_remainders_is_stored(self):
+        stored = [each for each in run_calls.stored() if each.call == "remainders"]
+        counts = inputs.tally("remainders", [end for each in stored for end in inputs.reached(
+            "remainders", each.given, cases.expected(each))])
+        self.assertEqual([end for end, count in counts.items() if not count], [])
 
 
 if __name__ == "__main__":
