@@ -190,20 +190,21 @@ pub own-time-unused : (seriesJudgement (set (set fileB 11 1) 12 1) (1 ∷ []) 1 
 unfolding sum largest anyAbove big jumpRate rowSum uniformRate framing quantities fallsUpTo listing jumps room rows seriesRows firstHeld judgement seriesJudgement
 own-time-unused = (refl, refl)
 
--- B with the rewards 3 and 2 and the rates 700,000 and 600,000: E is 700,000, F is 3, and the level is 2
+-- B with the rewards 3 and 2 and the second rate 999,999: E is 1,000,000, F is 3, and the level is 3
 abbrev pub unevenB : List ℕ
-unevenB = set (set (set (set (set (set (set (set fileB 16 3) 20 2) 22 0x0A) 23 0xAE) 24 0x60) 26 0x09) 27 0x27) 28 0xC0
+unevenB = set (set (set fileB 16 3) 20 2) 28 0x3F
 
 abbrev pub unevenChain : Chain
 unevenChain = chainOf (modelOf unevenB)
 
--- at state 2, counted from 1, each division of U(2,1) leaves something: 580952380952100000 is 829931972788 × 700,000 and 500,000;
--- 2 × 10^12 is 666666666666 × 3 and 2; 2 × 829931972788 + 666666666666 is 775510204080 × 3 and 2
-pub uneven-rests : remaindersOf unevenB 2 2 1 ≡ accepted (given (record { mean = 500000; share = 2; mix = 2 }))
+-- at state 2, counted from 1, each division of U(3,2) leaves something, and 3 is the level:
+-- 999,999 × 796296111110 + 1 × 611111111109 is 796295925924 × 1,000,000 and 999,999; 2 × 833333166665 is 555555444443 × 3 and 1;
+-- 3 × 796295925924 + 2 × 555555444443 is 699999733331 × 5 and 3
+pub uneven-rests : remaindersOf unevenB 2 3 2 ≡ accepted (given (record { mean = 999999; share = 1; mix = 3 }))
 unfolding sum largest anyAbove big jumpRate rowSum uniformRate c maxReward jumpMillionths framing quantities jumps firstHeld rowMean rewardShare mix nextEntry firstVectors nextVectors U mode rightward leftward weight weightSum tailBound allowance passes? firstFrom level modelLevel restsAt restsOf remaindersOf
 uneven-rests = refl
 
-pub uneven-quotients : (meanOf unevenChain 2 1 1 ≡ 829931972788) × (shareOf unevenChain 2 1 1 ≡ 666666666666) × (U unevenChain 2 1 1 ≡ 775510204080)
+pub uneven-quotients : (meanOf unevenChain 3 2 1 ≡ 796295925924) × (shareOf unevenChain 3 2 1 ≡ 555555444443) × (U unevenChain 3 2 1 ≡ 699999733331)
 unfolding sum largest big jumpRate rowSum uniformRate c maxReward rowMean rewardShare mix nextEntry firstVectors nextVectors U
 uneven-quotients = (refl, refl, refl)
 
@@ -229,11 +230,11 @@ asked-outside =
     ∷ record { file = fileB; state = 1; jumps = 0x100000001; moment = 1 }
     ∷ record { file = fileB; state = 1; jumps = 1; moment = 0 }
     ∷ record { file = fileB; state = 1; jumps = 1; moment = 3 }
-    ∷ record { file = unevenB; state = 2; jumps = 3; moment = 1 }
+    ∷ record { file = unevenB; state = 2; jumps = 4; moment = 2 }
     ∷ []
 
 pub outside-none : NoneOf asked-outside
-unfolding sum largest anyAbove big jumpRate rowSum uniformRate c maxReward jumpMillionths framing quantities jumps firstHeld mode rightward leftward weight weightSum tailBound allowance passes? firstFrom level modelLevel restsOf remaindersOf
+unfolding sum largest anyAbove big jumpRate rowSum uniformRate c maxReward jumpMillionths framing quantities jumps firstHeld rowMean rewardShare mix nextEntry firstVectors nextVectors U mode rightward leftward weight weightSum tailBound allowance passes? firstFrom level modelLevel restsAt restsOf remaindersOf
 outside-none = (refl, (refl, (refl, (refl, (refl, (refl, (refl, (refl, (refl, tt)))))))))
 
 -- a file's refusal comes before all else

@@ -9,24 +9,24 @@ use Rattle.definitions.specs.Sums.{pick}
 use Rattle.definitions.specs.Division.{Divides}
 use Rattle.definitions.specs.Chain.{Model, modelOf, Chain, chainOf}
 use Rattle.definitions.specs.Rules.{Answer, accepted, refused, outside, fileRows, firstHeld}
-use Rattle.definitions.specs.Vectors.{rowTotal, rowMean, rewarded, rewardShare, mixed, U}
+use Rattle.definitions.specs.Vectors.{rowTotal, rowMean, rewardProduct, rewardShare, mixed, U}
 use Rattle.definitions.specs.Moment.{modelLevel}
 
--- V of U(n,r) at i, the row mean of U(n−1,r), and the sum that it divides by E
+-- V of U(n,r) at i, the row mean of U(n−1,r), and its dividend, by E
 abbrev pub meanOf : Chain → ℕ → ℕ → ℕ → ℕ
 meanOf ch n r i = rowMean ch (U ch (n - 1) r) i
 
 abbrev pub meanDividend : Chain → ℕ → ℕ → ℕ → ℕ
 meanDividend ch n r i = rowTotal ch (U ch (n - 1) r) i
 
--- W of U(n,r) at i, the reward share of U(n,r−1), and the product that it divides by F
+-- W of U(n,r) at i, the reward share of U(n,r−1), and its dividend, by F
 abbrev pub shareOf : Chain → ℕ → ℕ → ℕ → ℕ
 shareOf ch n r i = rewardShare ch (U ch n (r - 1) i) i
 
 abbrev pub shareDividend : Chain → ℕ → ℕ → ℕ → ℕ
-shareDividend ch n r i = rewarded ch (U ch n (r - 1) i) i
+shareDividend ch n r i = rewardProduct ch (U ch n (r - 1) i) i
 
--- n × V + r × W, which U(n,r) at i divides by n + r
+-- the dividend of U(n,r) at i, by n + r: n × V + r × W
 abbrev pub mixDividend : Chain → ℕ → ℕ → ℕ → ℕ
 mixDividend ch n r i = mixed n r (meanOf ch n r i) (shareOf ch n r i)
 
@@ -44,13 +44,13 @@ pub data Maybe (A : Type 0) : Type 0 where
   none : Maybe A
   given : A → Maybe A
 
--- a model has no such U(n,r): the state, counted from 1, is outside 1 to M, n outside 1 to N or r outside 1 to R
-abbrev pub lacks : Model → ℕ → ℕ → ℕ → Bool
-lacks m state n r = outside state (m .states) || outside n (modelLevel m) || outside r (m .highest)
+-- the state, counted from 1, is outside 1 to M, n outside 1 to N or r outside 1 to R
+abbrev pub anyOutside : Model → ℕ → ℕ → ℕ → Bool
+anyOutside m state n r = outside state (m .states) || outside n (modelLevel m) || outside r (m .highest)
 
--- what a model gives: none where it has no such U(n,r)
+-- what a model gives: none where one of them is outside
 unfoldable pub restsOf : Model → ℕ → ℕ → ℕ → Maybe Rests
-restsOf m state n r = pick (lacks m state n r) none (given (restsAt (chainOf m) n r (state - 1)))
+restsOf m state n r = pick (anyOutside m state n r) none (given (restsAt (chainOf m) n r (state - 1)))
 
 -- what a call answers of the file s: the first of rows 1 to 12 that holds, before all else
 unfoldable pub remaindersOf : List ℕ → ℕ → ℕ → ℕ → Answer (Maybe Rests)
@@ -62,7 +62,7 @@ remaindersAnswer (answered.Given x) = accepted (given x)
 remaindersAnswer answered.Nothing = accepted none
 remaindersAnswer (answered.Refused k) = refused k
 
--- document 02's value for each answer, of a number that one of the remainders is written to: what it holds after the call, from what it held before
+-- a number that is lent for one of the remainders: what it holds after a call, from what it held before. It is written where they are given, and stays else.
 abbrev pub numberAfter : Answer (Maybe Rests) → (Rests → ℕ) → ℕ → ℕ
 numberAfter (accepted (given x)) which before = which x
 numberAfter (accepted none) which before = before

@@ -8,7 +8,7 @@ use Rattle.definitions.specs.Chain.{Chain, padded}
 abbrev pub ONE : ℕ
 ONE = 1000000000000
 
--- what V divides, for a vector v at i: the sum over j of c(i,j) × v(j)
+-- the dividend of V, for a vector v at i: the sum over j of c(i,j) × v(j)
 abbrev pub rowTotal : Chain → (ℕ → ℕ) → ℕ → ℕ
 rowTotal ch v i = sum (ch .states) (λ j. ch .entry i j * v j)
 
@@ -16,15 +16,15 @@ rowTotal ch v i = sum (ch .states) (λ j. ch .entry i j * v j)
 unfoldable pub rowMean : Chain → (ℕ → ℕ) → ℕ → ℕ
 rowMean ch v i = rowTotal ch v i / ch .rate
 
--- what W divides, for x ticks at i: f(i) × x
-abbrev pub rewarded : Chain → ℕ → ℕ → ℕ
-rewarded ch x i = ch .reward i * x
+-- the dividend of W, for x ticks at i: f(i) × x
+abbrev pub rewardProduct : Chain → ℕ → ℕ → ℕ
+rewardProduct ch x i = ch .reward i * x
 
 -- W, the reward share of x ticks at i: that product over F, down
 unfoldable pub rewardShare : Chain → ℕ → ℕ → ℕ
-rewardShare ch x i = rewarded ch x i / ch .largestReward
+rewardShare ch x i = rewardProduct ch x i / ch .largestReward
 
--- what U divides: n × V + r × W
+-- the dividend of U: n × V + r × W
 abbrev pub mixed : ℕ → ℕ → ℕ → ℕ → ℕ
 mixed n r v w = n * v + r * w
 

@@ -40,8 +40,8 @@ pub struct Rests {
     pub mix: u64,
 }
 
-// What a call that takes a file, a state, n and r answers: the remainders, nothing where the file has no such U(n,r), or the
-// number of the refusal.
+// What a call that takes a file, a state, n and r answers: the remainders; nothing where the state is outside 1 to M, n outside
+// 1 to N or r outside 1 to R; or the number of the refusal.
 pub enum Remainders {
     Given(Rests),
     Nothing,

@@ -26,6 +26,12 @@ givenOrNone (accepted (given x)) = accepted 0
 givenOrNone (accepted none) = accepted 1
 givenOrNone (refused k) = refused k
 
+-- an answer with the numbers that are lent for the remainders in the place of those that it gives
+abbrev pub withNumbers : Answer (Maybe Rests) → Rests → Answer (Maybe Rests)
+withNumbers (accepted (given x)) y = accepted (given y)
+withNumbers (accepted none) y = accepted none
+withNumbers (refused k) y = refused k
+
 -- the answer that a plain number stands for: below refusalsFrom an acceptance, any other a refusal
 unfoldable pub meant : ℕ → Answer ℕ
 meant x = pick (ltb x refusalsFrom) (accepted x) (refused (x - refusalsFrom))

@@ -5,15 +5,17 @@ use mathlib.Core.Path.{_≡_, refl, sym, _∙_, ap}
 use mathlib.Core.List.{List}
 use lib.ListN.{length}
 use borrow.Author.Tests.{lt-ltb, le-ltb}
+use Rattle.definitions.specs.declared.Rests.{Rests}
 use Rattle.definitions.specs.Chain.{modelOf, jumpMillionths}
 use Rattle.definitions.specs.Rules.{Answer, accepted, refused, seriesJudgement}
 use Rattle.definitions.specs.Level.{level}
 use Rattle.definitions.specs.Moment.{modelLevel, outcome}
+use Rattle.definitions.specs.Remainders.{Maybe, none, given}
 use Rattle.laws.specs.Acceptance.{accepted-file, accepted-series}
 use Rattle.laws.specs.RuleLaws.{accepted-is-no-refusal}
 use Rattle.laws.specs.LevelLaws.{level-is, level-max}
 use Rattle.laws.specs.MomentLaws.{level-accepted, outcome-accepted}
-use Rattle.kuldrepso.specs.Plain.{refusalsFrom, plainAnswer, returning, meant}
+use Rattle.kuldrepso.specs.Plain.{refusalsFrom, plainAnswer, returning, givenOrNone, meant}
 
 -- a plain number stands for its answer, where acceptances return less than refusalsFrom
 pub answer-meant : (a : Answer ℕ) → ((n : ℕ) → a ≡ accepted n → n < refusalsFrom) → meant (plainAnswer a) ≡ a
@@ -62,3 +64,10 @@ series-answer s times levels cells n e = from (seriesJudgement s times levels ce
 pub series-meant : (s times : List ℕ) (levels cells : ℕ) → meant (plainAnswer (returning (length times) (seriesJudgement s times levels cells))) ≡ returning (length times) (seriesJudgement s times levels cells)
 series-meant s times levels cells =
     answer-meant (returning (length times) (seriesJudgement s times levels cells)) (λ n e. omega (arith, series-answer s times levels cells n e .2))
+
+-- remainders go out as 0 or 1, and that number tells whether they are given
+pub remainders-meant : (a : Answer (Maybe Rests)) → meant (plainAnswer (givenOrNone a)) ≡ givenOrNone a
+unfolding meant plainAnswer
+remainders-meant (accepted (given x)) = refl
+remainders-meant (accepted none) = refl
+remainders-meant (refused k) = answer-meant (refused k) (λ n e. absurd (accepted-is-no-refusal n k (sym e)))

@@ -8,12 +8,12 @@ ghost use Rattle.definitions.specs.Moment.{outcome, cellsAfter};
 ghost use Rattle.definitions.specs.Promise.{Promised};
 ghost use Rattle.definitions.specs.Series.{levelsAfter, blocksAfter, AreRuns, SeriesPromised};
 ghost use Rattle.definitions.specs.Remainders.{remaindersOf, numberAfter, WorkedOut};
-ghost use Rattle.kuldrepso.specs.Plain.{plainAnswer, returning, givenOrNone};
+ghost use Rattle.kuldrepso.specs.Plain.{plainAnswer, returning, givenOrNone, withNumbers};
 use definitions::Outcome;
 use definitions::Remainders;
 use definitions::Series;
 
-// Refusal k goes out as this and k. No level and no count of times is near it: the greatest are 563 and 8.
+// Refusal k goes out as this and k. No other answer is near it: the greatest level is 563, and the most times are 8.
 const REFUSED: u64 = 1_000_000;
 
 // Remainders that are given, and none.
@@ -54,8 +54,8 @@ pub extern "C" fn kuldrepso_series(
     }
 }
 
-// remainders::remainders, with GIVEN, NONE and REFUSED + k for refusal k. Remainders that are given are written through the
-// three references, which else are as they were.
+// remainders::remainders, with GIVEN, NONE and REFUSED + k for refusal k. Remainders that are given are written to the three
+// numbers, which else stay.
 #[no_mangle]
 pub extern "C" fn kuldrepso_remainders(
     file: &[u8],
@@ -70,7 +70,7 @@ pub extern "C" fn kuldrepso_remainders(
     ensures mean { λ a. ⌜ now (mean .exit) ≡ numberAfter (remaindersOf (now (file .entry)) state n r) (λ x. x .mean) (now (mean .entry)) ⌝ }
     ensures share { λ a. ⌜ now (share .exit) ≡ numberAfter (remaindersOf (now (file .entry)) state n r) (λ x. x .share) (now (share .entry)) ⌝ }
     ensures mix { λ a. ⌜ now (mix .exit) ≡ numberAfter (remaindersOf (now (file .entry)) state n r) (λ x. x .mix) (now (mix .entry)) ⌝ }
-    ensures worked { λ a. ⌜ WorkedOut (remaindersOf (now (file .entry)) state n r) (now (file .entry)) state n r ⌝ }
+    ensures worked { λ a. ⌜ WorkedOut (withNumbers (remaindersOf (now (file .entry)) state n r) (record { mean = now (mean .exit); share = now (share .exit); mix = now (mix .exit) })) (now (file .entry)) state n r ⌝ }
 {
     match remainders::remainders(file, state, n, r) {
         Remainders::Given(rests) => {

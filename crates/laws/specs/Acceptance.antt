@@ -16,24 +16,9 @@ use Rattle.definitions.specs.Rules.{accepted, Rows, outside, framing, startsAtZ
 use Rattle.definitions.specs.Series.{modelAt}
 use Rattle.laws.specs.SumLaws.{any-largest}
 use Rattle.laws.specs.RuleLaws.{andThen, in-parts, NoneHold, none-hold, accepted-value, none-in-parts}
-use Rattle.laws.specs.RowLaws.{with-a-time}
+use Rattle.laws.specs.RowLaws.{neither, in-range, with-a-time}
 use Rattle.laws.specs.ChainLaws.{rate-at, rate-pos, row-sums-to-rate, reward-le-largest}
 use Rattle.laws.specs.VectorLaws.{Stochastic}
-
--- neither of two tests holds
-pub neither : (a b : Bool) → (a || b) ≡ false → (a ≡ false) × (b ≡ false)
-neither true true h = absurd (let z : _≡_ {A = ℕ} 0 1 = cc in omega arith)
-neither true false h = absurd (let z : _≡_ {A = ℕ} 0 1 = cc in omega arith)
-neither false true h = absurd (let z : _≡_ {A = ℕ} 0 1 = cc in omega arith)
-neither false false h = (refl, refl)
-
--- a number that is neither 0 nor above k
-pub in-range : (x k : ℕ) → outside x k ≡ false → (1 ≤ x) × (x ≤ k)
-in-range x k h =
-    let both : (eqb x 0 ≡ false) × (ltb k x ≡ false) = neither (eqb x 0) (ltb k x) h in
-    let nonzero : x ≡ 0 → ⊥ = eqb-false x 0 (both .0) in
-    let small : x ≤ k = ltb-false k x (both .1) in
-    (omega (arith, nonzero), small)
 
 -- two numbers that do not differ
 held-equal : (x y : ℕ) → not (eqb x y) ≡ false → x ≡ y

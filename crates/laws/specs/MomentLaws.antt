@@ -2,17 +2,17 @@
 use Prim.Native.Nat.{ℕ, suc, _+_, _*_, _-_, _/_, _%_, _≤_, _<_}
 use native.Mathlib.Omega.{arith}
 use native.Mathlib.Nat.{mul-le-mul, mul-le-mul-left}
-use mathlib.Core.Path.{_≡_, refl, sym, _∙_, ap, ap₂}
+use mathlib.Core.Path.{_≡_, refl, sym, _∙_, ap₂}
 use mathlib.Core.List.{List}
 use lib.ListN.{getD}
 use Rattle.definitions.specs.Sums.{over}
-use Rattle.definitions.specs.Division.{Divides, Rounds}
+use Rattle.definitions.specs.Division.{Rounds}
 use Rattle.definitions.specs.Chain.{Model, modelOf}
 use Rattle.definitions.specs.Vectors.{ONE}
 use Rattle.definitions.specs.Weights.{mode, weight, weightSum}
 use Rattle.definitions.specs.Moment.{term, weighted, lastQuotient, weightedMean, moment, cellOf, cell, modelLevel, outcome}
 use Rattle.definitions.specs.Rules.{Answer, accepted, refused, rows, judgement}
-use Rattle.laws.specs.Rounding.{quotient-at-most, quotient-below, remainder-below, divides, row-of-place, place-in-row, place-below}
+use Rattle.laws.specs.Rounding.{quotient-at-most, quotient-below, remainder-below, row-of-place, place-in-row, place-below}
 use Rattle.laws.specs.Nearest.{nearest-within, nearest-at-most, nearest-up, nearest-down, nearest-rounds}
 use Rattle.laws.specs.SumLaws.{sum-mono}
 use Rattle.laws.specs.RuleLaws.{accepted-is-no-refusal, other-value}
@@ -51,11 +51,6 @@ getD-moment m N i r cells l low high =
 pub term-max : (w u : ℕ) → u ≤ ONE → term w u ≤ w
 unfolding term
 term-max w u h = quotient-at-most (w * u) w ONE (mul-le-mul-left w h)
-
--- and drops the remainder of w × u by 10^12
-pub term-divides : (w u : ℕ) → Divides (w * u) ONE (term w u) (w * u % ONE)
-unfolding term
-term-divides w u = divides (w * u) ONE (omega arith)
 
 -- A is at most S where no u is above ONE
 pub weighted-max : (X N : ℕ) (u : ℕ → ℕ) → ((n : ℕ) → n ≤ N → u n ≤ ONE) → weighted X u N ≤ weightSum X N

@@ -1,21 +1,31 @@
 -- What the divisions of U(n,r) leave: quotient, divisor and remainder of each, and when a call gives them.
-use Prim.Native.Nat.{ℕ, _+_, _*_, _-_, _/_, _%_, _≤_, _<_}
+use Prim.Native.Nat.{ℕ, zero, suc, _+_, _*_, _-_, _/_, _%_, _≤_, _<_}
 use native.Mathlib.Omega.{arith}
 use mathlib.Core.Path.{_≡_, refl, _∙_, ap, ap₂}
 use mathlib.Core.Bool.{Bool, true, false, _||_}
 use mathlib.Core.List.{List}
 use Rattle.definitions.specs.declared.Rests.{Rests}
-use Rattle.definitions.specs.Division.{Divides}
 use Rattle.definitions.specs.Chain.{Model, Chain, modelOf, chainOf}
 use Rattle.definitions.specs.Rules.{Answer, accepted, refused, outside, fileRows, fileJudgement}
-use Rattle.definitions.specs.Vectors.{rowMean, rewardShare, mixed, mix, U}
+use Rattle.definitions.specs.Vectors.{rowMean, rewardShare, mixed, mix, nextEntry, U}
 use Rattle.definitions.specs.Moment.{modelLevel}
-use Rattle.definitions.specs.Remainders.{meanOf, meanDividend, shareOf, shareDividend, mixDividend, restsAt, none, given, lacks, restsOf, remaindersOf, Worked, WorkedOut}
+use Rattle.definitions.specs.Remainders.{meanOf, meanDividend, shareOf, shareDividend, mixDividend, restsAt, none, given, anyOutside, restsOf, remaindersOf, Worked, WorkedOut}
 use Rattle.laws.specs.Rounding.{divides}
-use Rattle.laws.specs.RuleLaws.{none-hold, accepted-value, other-value}
-use Rattle.laws.specs.Acceptance.{neither, in-range, AcceptedModel, accepted-model}
+use Rattle.laws.specs.RuleLaws.{other-value}
+use Rattle.laws.specs.RowLaws.{neither, in-range}
+use Rattle.laws.specs.Acceptance.{AcceptedModel, accepted-model}
 use Rattle.laws.specs.ChainLaws.{SameChain}
-use Rattle.laws.specs.VectorLaws.{U-mixed, rowTotal-same, U-same}
+use Rattle.laws.specs.VectorLaws.{U-next, rowTotal-same, U-same}
+
+-- U(n,r) is the mix of its V and W
+pub U-mixed : (ch : Chain) (n r i : ℕ) → 1 ≤ n → 1 ≤ r → U ch n r i ≡ mix n r (meanOf ch n r i) (shareOf ch n r i)
+unfolding nextEntry
+U-mixed ch zero r i hn hr = absurd (omega arith)
+U-mixed ch (suc n) zero i hn hr = absurd (omega arith)
+U-mixed ch (suc n) (suc r) i hn hr = rw (less n, less r) (U-next ch n r i)
+  where
+    less : (k : ℕ) → suc k - 1 ≡ k
+    less k = omega arith
 
 -- quotient × divisor + remainder is the dividend, the remainder is below the divisor, and the quotients are V, W and U(n,r)
 pub worked : (ch : Chain) (n r i : ℕ) → 0 < ch .rate → 0 < ch .largestReward → 1 ≤ n → 1 ≤ r → Worked ch n r i (restsAt ch n r i)
@@ -27,10 +37,14 @@ worked ch n r i rate-pos reward-pos hn hr =
       mix = rw (U-mixed ch n r i hn hr) (divides (mixDividend ch n r i) (n + r) (omega arith));
     }
 
+-- remainders that are the same one by one
+pub same-rests : (x y : Rests) → x .mean ≡ y .mean → x .share ≡ y .share → x .mix ≡ y .mix → x ≡ y
+same-rests x y p q r = λ k. record { mean = p k; share = q k; mix = r k }
+
 -- chains that agree at their states leave the same
 pub rests-same : (a b : Chain) → SameChain a b → (n r i : ℕ) → i < a .states → restsAt a n r i ≡ restsAt b n r i
 unfolding restsAt rowMean rewardShare
-rests-same a b e n r i l = λ k. record { mean = ap₂ _%_ total (e .rate) k; share = ap₂ _%_ product (e .largestReward) k; mix = ap (λ (x : ℕ). x % (n + r)) sum k }
+rests-same a b e n r i l = same-rests _ _ (ap₂ _%_ total (e .rate)) (ap₂ _%_ product (e .largestReward)) (ap (λ (x : ℕ). x % (n + r)) sum)
   where
     total : meanDividend a n r i ≡ meanDividend b n r i
     total = rowTotal-same a b (U a (n - 1) r) (U b (n - 1) r) i e l (U-same a b e (n - 1) r)
@@ -42,12 +56,12 @@ rests-same a b e n r i l = λ k. record { mean = ap₂ _%_ total (e .rate) k; sh
     sum = ap₂ (mixed n r) (ap₂ _/_ total (e .rate)) (ap₂ _/_ product (e .largestReward))
 
 -- outside their limits state, n and r have none
-pub rests-none : (m : Model) (state n r : ℕ) → lacks m state n r ≡ true → restsOf m state n r ≡ none
+pub rests-none : (m : Model) (state n r : ℕ) → anyOutside m state n r ≡ true → restsOf m state n r ≡ none
 unfolding restsOf
 rests-none m state n r h = rw h
 
 -- within them they have those of U(n,r)
-pub rests-given : (m : Model) (state n r : ℕ) → lacks m state n r ≡ false → restsOf m state n r ≡ given (restsAt (chainOf m) n r (state - 1))
+pub rests-given : (m : Model) (state n r : ℕ) → anyOutside m state n r ≡ false → restsOf m state n r ≡ given (restsAt (chainOf m) n r (state - 1))
 unfolding restsOf
 rests-given m state n r h = rw h
 
@@ -69,7 +83,7 @@ pub record Inside (m : Model) (state n r : ℕ) : Type 0 where
   pub moment-min : 1 ≤ r
   pub moment-max : r ≤ m .highest
 
-pub inside : (m : Model) (state n r : ℕ) → lacks m state n r ≡ false → Inside m state n r
+pub inside : (m : Model) (state n r : ℕ) → anyOutside m state n r ≡ false → Inside m state n r
 inside m state n r h =
     let two = neither (outside state (m .states) || outside n (modelLevel m)) (outside r (m .highest)) h in
     let one = neither (outside state (m .states)) (outside n (modelLevel m)) (two .0) in
@@ -92,12 +106,12 @@ worked-out s state n r = from (fileJudgement s) refl
     m : Model
     m = modelOf s
 
-    within : AcceptedModel s → (b : Bool) → lacks m state n r ≡ b → WorkedOut (accepted (restsOf m state n r)) s state n r
+    within : AcceptedModel s → (b : Bool) → anyOutside m state n r ≡ b → WorkedOut (accepted (restsOf m state n r)) s state n r
     within model true h = rw (rests-none m state n r h) tt
     within model false h =
         let i = inside m state n r h in
         rw (rests-given m state n r h) (worked (chainOf m) n r (state - 1) (model .limits .rate-min) (model .limits .rewards-pos) (i .jumps-min) (i .moment-min))
 
     from : (a : Answer (Unit {0})) → fileJudgement s ≡ a → WorkedOut (remaindersOf s state n r) s state n r
-    from (accepted tt) e = rw (remainders-accepted s state n r e) (within (accepted-model s e) (lacks m state n r) refl)
+    from (accepted tt) e = rw (remainders-accepted s state n r e) (within (accepted-model s e) (anyOutside m state n r) refl)
     from (refused k) e = rw (remainders-refused s state n r k e) tt

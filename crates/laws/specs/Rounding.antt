@@ -41,7 +41,7 @@ quotient-remainder a c = div-add-mod' a c
 pub remainder-below : (a c : ℕ) → 0 < c → a % c < c
 remainder-below a c pos = mod-lt a pos
 
--- so the quotient and the remainder divide the number
+-- so a by c is the quotient, and the remainder is left over
 pub divides : (a c : ℕ) → 0 < c → Divides a c (a / c) (a % c)
 divides a c pos = record { whole = quotient-remainder a c; rest = remainder-below a c pos }
 
@@ -57,7 +57,7 @@ same-parts d e p q = ap₂ made p q
     made : ℕ → ℕ → Division
     made a b = record { quotient = a; remainder = b }
 
--- so what divides a number is its quotient and remainder
+-- so where n by c is q, and r is left over, they are its quotient and remainder
 pub division-is : (n c q r : ℕ) → Divides n c q r → record { quotient = q; remainder = r } ≡ division n c
 division-is n c q r d = same-parts _ _ (sym (quotient-unique n c q r (d .rest) (d .whole))) (sym (remainder-unique n c q r (d .rest) (d .whole)))
 

@@ -1,15 +1,34 @@
--- Single rows of the tables, from the numbers that they compare: rows 8 and 15, of a list of times, and 12 and 13.
+-- The tests of 1 to a limit, and single rows of the tables, from the numbers that they compare: 8 and 15, of a list of times, and 9 to 13.
 use Prim.Native.Nat.{ℕ, zero, suc, _-_, _≤_, _<_}
 use native.Mathlib.Omega.{arith}
 use native.Mathlib.Decide.{decLe}
 use mathlib.Core.Path.{_≡_, refl, _∙_, ap, ap₂}
-use mathlib.Core.Bool.{Bool, true, false, _||_, or-true}
+use mathlib.Core.Bool.{Bool, true, false, not, _||_, or-true}
 use mathlib.Core.List.{List, [], _∷_}
-use lib.Dec.{eqb, leb}
+use lib.Dec.{eqb, leb, ltb}
 use lib.ListN.{length, getD}
-use borrow.Author.Tests.{le-leb, lt-leb, lt-ltb, le-ltb}
+use borrow.Author.Tests.{le-leb, lt-leb, lt-ltb, le-ltb, ltb-false, eqb-false}
+use Rattle.definitions.specs.Sums.{largest, anyAbove}
+use Rattle.definitions.specs.File.{stateCount, rewardField}
+use Rattle.definitions.specs.Chain.{modelOf, rowSum, uniformRate, maxReward}
 use Rattle.definitions.specs.Rules.{accepted, refused, outside, startsAtZero, fallsUpTo, jumps, room, judgedBy}
+use Rattle.laws.specs.SumLaws.{any-largest}
 use Rattle.laws.specs.RuleLaws.{row-stops, row-passes, none-left}
+
+-- neither of two tests holds
+pub neither : (a b : Bool) → (a || b) ≡ false → (a ≡ false) × (b ≡ false)
+neither true true h = absurd (let z : _≡_ {A = ℕ} 0 1 = cc in omega arith)
+neither true false h = absurd (let z : _≡_ {A = ℕ} 0 1 = cc in omega arith)
+neither false true h = absurd (let z : _≡_ {A = ℕ} 0 1 = cc in omega arith)
+neither false false h = (refl, refl)
+
+-- a number that is neither 0 nor above k
+pub in-range : (x k : ℕ) → outside x k ≡ false → (1 ≤ x) × (x ≤ k)
+in-range x k h =
+    let both : (eqb x 0 ≡ false) × (ltb k x ≡ false) = neither (eqb x 0) (ltb k x) h in
+    let nonzero : x ≡ 0 → ⊥ = eqb-false x 0 (both .0) in
+    let small : x ≤ k = ltb-false k x (both .1) in
+    (omega (arith, nonzero), small)
 
 -- a test of 1 to most: with an equal limit it says the same
 pub same-limit : {most' : ℕ} (x most : ℕ) → most' ≡ most → outside x most' ≡ outside x most
@@ -49,6 +68,39 @@ falls-at t k (suc n) low high fallen =
           let same : suc n - 1 ≡ n = omega arith in
           ap (λ (b : Bool). fallsUpTo n t || b) (le-leb (getD t (suc n) 0) (getD t n 0) (rw (here, same) at fallen)) ∙ or-true (fallsUpTo n t)
     ]
+
+-- rows 9, 10 and 11, the tests over all states, from the largest entry
+above : (k n : ℕ) (f : ℕ → ℕ) → k < largest n f → anyAbove k n f ≡ true
+above k n f h = any-largest k n f ∙ lt-ltb k (largest n f) h
+
+not-above : (k n : ℕ) (f : ℕ → ℕ) → largest n f ≤ k → anyAbove k n f ≡ false
+not-above k n f h = any-largest k n f ∙ le-ltb k (largest n f) h
+
+module _ (s : List ℕ) where
+  pub rewards-over : 1000000 < maxReward (modelOf s) → anyAbove 1000000 (stateCount s) (rewardField s) ≡ true
+  unfolding maxReward
+  rewards-over h = above 1000000 (stateCount s) (rewardField s) h
+
+  pub rewards-within : maxReward (modelOf s) ≤ 1000000 → anyAbove 1000000 (stateCount s) (rewardField s) ≡ false
+  unfolding maxReward
+  rewards-within h = not-above 1000000 (stateCount s) (rewardField s) h
+
+  pub no-reward : maxReward (modelOf s) ≤ 0 → not (anyAbove 0 (stateCount s) (rewardField s)) ≡ true
+  unfolding maxReward
+  no-reward h = ap not (not-above 0 (stateCount s) (rewardField s) h)
+
+  pub some-reward : 0 < maxReward (modelOf s) → not (anyAbove 0 (stateCount s) (rewardField s)) ≡ false
+  unfolding maxReward
+  some-reward h = ap not (above 0 (stateCount s) (rewardField s) h)
+
+  -- some row sum is above its limit just where E is
+  pub sums-over : 10000000 < uniformRate (modelOf s) → anyAbove 10000000 (stateCount s) (rowSum (modelOf s)) ≡ true
+  unfolding uniformRate
+  sums-over h = above 10000000 (stateCount s) (rowSum (modelOf s)) (omega arith)
+
+  pub sums-within : uniformRate (modelOf s) ≤ 10000000 → anyAbove 10000000 (stateCount s) (rowSum (modelOf s)) ≡ false
+  unfolding uniformRate
+  sums-within h = not-above 10000000 (stateCount s) (rowSum (modelOf s)) (omega arith)
 
 -- row 12: with equal numbers it answers the same
 pub same-jumps : {E' T' : ℕ} (E T : ℕ) → E' ≡ E → T' ≡ T → judgedBy (jumps E' T') ≡ judgedBy (jumps E T)

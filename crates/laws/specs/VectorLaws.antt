@@ -1,12 +1,11 @@
 -- The recurrence's equations as the paper has them, its range, and that it reads a chain at its states alone.
-use Prim.Native.Nat.{ℕ, zero, suc, _+_, _*_, _-_, _/_, _≤_, _<_}
+use Prim.Native.Nat.{ℕ, zero, suc, _+_, _*_, _/_, _≤_, _<_}
 use native.Mathlib.Omega.{arith}
 use native.Mathlib.Nat.{mul-le-mul, mul-le-mul-left, mul-le-mul-right, le-trans}
 use mathlib.Core.Path.{_≡_, refl, sym, _∙_, ap, ap₂}
 use Rattle.definitions.specs.Sums.{sum}
 use Rattle.definitions.specs.Chain.{Chain}
 use Rattle.definitions.specs.Vectors.{ONE, rowTotal, rowMean, rewardShare, mix, nextEntry, firstVectors, nextVectors, U}
-use Rattle.definitions.specs.Remainders.{meanOf, shareOf}
 use Rattle.laws.specs.Rounding.{quotient-at-most}
 use Rattle.laws.specs.SumLaws.{sum-same, sum-mono, sum-times}
 use Rattle.laws.specs.ChainLaws.{SameChain}
@@ -30,16 +29,6 @@ U-first-written ch r i = U-first ch r i
 pub U-next : (ch : Chain) (n r i : ℕ) → U ch (suc n) (suc r) i ≡ nextEntry ch (suc n) (suc r) (U ch n (suc r)) (U ch (suc n) r) i
 unfolding U nextVectors
 U-next ch n r i = refl
-
--- the mix of its V and W
-pub U-mixed : (ch : Chain) (n r i : ℕ) → 1 ≤ n → 1 ≤ r → U ch n r i ≡ mix n r (meanOf ch n r i) (shareOf ch n r i)
-unfolding nextEntry
-U-mixed ch zero r i hn hr = absurd (omega arith)
-U-mixed ch (suc n) zero i hn hr = absurd (omega arith)
-U-mixed ch (suc n) (suc r) i hn hr = rw (less n, less r) (U-next ch n r i)
-  where
-    less : (k : ℕ) → suc k - 1 ≡ k
-    less k = omega arith
 
 -- the same, written out: V, W and their mean
 pub U-next-written : (ch : Chain) (n r i : ℕ) → U ch (suc n) (suc r) i ≡ (suc n * (sum (ch .states) (λ j. ch .entry i j * U ch n (suc r) j) / ch .rate) + suc r * (ch .reward i * U ch (suc n) r i / ch .largestReward)) / (suc n + suc r)

@@ -1,5 +1,4 @@
 -- What muldiv's contracts cite, and what its loop keeps: document 01, "Multiply, then divide", with document 02, S-2 and S-4. Assumes nothing: these are definitions.
-use mathlib.Core.Path.{_≡_}
 use mathlib.Core.Bool.{Bool, true, false}
 use Prim.Native.Nat.{ℕ, _+_, _*_, _/_, _%_, _^_, _<_, _≤_}
 use lib.Dec.{leb, eqb}

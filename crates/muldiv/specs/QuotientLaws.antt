@@ -6,8 +6,8 @@ use native.Mathlib.Nat.{mul-le-mul-left}
 use native.Mathlib.Omega.{arith}
 use borrow.Author.Tests.{le-leb, lt-leb, eq-eqb, ne-eqb}
 use Rattle.definitions.specs.declared.Division.{Division}
-use Rattle.definitions.specs.Division.{Divides, division}
-use Rattle.laws.specs.Rounding.{quotient-at-most, divides}
+use Rattle.definitions.specs.Division.{division}
+use Rattle.laws.specs.Rounding.{quotient-at-most}
 use Rattle.muldiv.specs.declared.Divided.{Divided}
 use Rattle.muldiv.specs.declared.Divided.the-variants.{Into, Nothing}
 use Rattle.muldiv.specs.MulDiv.{unless, fitted, dividedOf, Scalable}
@@ -51,7 +51,7 @@ in-range a b c pos ha hb hc =
 
 -- 2. introduction: the quotient of numbers that are in range and whose quotient fits
 
-pub divided-into : (a b c : ℕ) → Scalable a b c → dividedOf a b c ≡ Into (division (a * b) c)
+divided-into : (a b c : ℕ) → Scalable a b c → dividedOf a b c ≡ Into (division (a * b) c)
 divided-into a b c s =
     rw (in-range a b c (s .divisor) (s .a-small) (s .b-small) (s .c-small), fitted-small (a * b / c) (a * b % c) (s .fits))
 
@@ -79,7 +79,6 @@ scalable-by a b c k pos ha hb hc h hk =
 pub record Given (a b c : ℕ) (d : Division) : Type 0 where
   pub scalable : Scalable a b c
   pub value : d ≡ division (a * b) c
-  pub parts : Divides (a * b) c (d .quotient) (d .remainder)
 
 apart : {o : Divided} {d : Division} → o ≡ Into d → o ≡ Nothing → ⊥
 apart p n = let z : _≡_ {A = ℕ} 0 1 = cc in omega arith
@@ -95,4 +94,4 @@ given a b c d e =
     let s : Scalable a b c = omega arith in
     let made : dividedOf a b c ≡ Into (division (a * b) c) = divided-into a b c s in
     let value : d ≡ division (a * b) c = cc in
-    record { scalable = s; value = value; parts = rw value (divides (a * b) c (s .divisor)) }
+    record { scalable = s; value = value }

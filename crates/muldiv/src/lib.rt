@@ -54,7 +54,7 @@ pub fn scaled(a: u64, b: u64, c: u64) -> Division
     }
 }
 
-// n by c, where n is at hand.
+// n by c, for an n of 64 bits.
 pub fn divide(n: u64, c: u64) -> Division
     requires { ⌜ 0 < c ⌝ }
     ensures { λ d. ⌜ d ≡ division n c ⌝ }
@@ -87,7 +87,7 @@ pub fn over_trillion(a: u64, b: u64) -> Division
     }
 }
 
-// The remainder of low with high * b added to its quotient, or Nothing where that is 2^64 or more.
+// low with high * b added to its quotient; Nothing where that quotient is 2^64 or more.
 fn total(high: u64, b: u64, low: Division) -> Divided
     ensures { λ r. ⌜ r ≡ fitted (high * b + low .quotient) (low .remainder) ⌝ }
 {

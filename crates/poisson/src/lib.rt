@@ -8,8 +8,8 @@ ghost use Prim.Native.Nat.{_+_, _-_, _*_, _/_, _%_, _^_, _≤_, _<_};
 ghost use lib.ListN.{length};
 ghost use Rattle.definitions.specs.Sums.{over};
 ghost use Rattle.definitions.specs.Division.{Divides};
-ghost use Rattle.definitions.specs.Weights.{mode, weight, weightSum};
-ghost use Rattle.definitions.specs.Level.{tailBound, passes?};
+ghost use Rattle.definitions.specs.Weights.{MILLION, mode, weight, weightSum};
+ghost use Rattle.definitions.specs.Level.{BILLION, tailBound, passes?};
 ghost use Rattle.laws.specs.LevelLaws.{LEVELS};
 ghost use Rattle.poisson.specs.Stages.{Truncated};
 
@@ -81,7 +81,7 @@ fn mode_of(x: u64) -> u64
 // w(n + 1), given w(n), for n from m on. The remainder of w(n) * X by (n + 1) * 1,000,000 is dropped.
 fn step_right(w: u64, x: u64, n: u64) -> u64
     requires { ⌜ (w ≡ weight x n) × (mode x ≤ n) × (n + 1 < LEVELS) ⌝ }
-    ensures { λ r. ⌜ (r ≡ weight x (n + 1)) × Divides (w * x) ((n + 1) * 1000000) r (w * x % ((n + 1) * 1000000)) ⌝ }
+    ensures { λ r. ⌜ (r ≡ weight x (n + 1)) × Divides (w * x) ((n + 1) * MILLION) r (w * x % ((n + 1) * MILLION)) ⌝ }
 {
     let next = muldiv::scaled(w, x, (n + 1) * MILLION);
     next.quotient
@@ -90,27 +90,27 @@ fn step_right(w: u64, x: u64, n: u64) -> u64
 // w(n - 1), given w(n), for n up to m. The remainder of w(n) * n * 1,000,000 by X is dropped.
 fn step_left(w: u64, x: u64, n: u64) -> u64
     requires { ⌜ (w ≡ weight x n) × (1 ≤ n) × (n ≤ mode x) × (x ≤ 256000000) ⌝ }
-    ensures { λ r. ⌜ (r ≡ weight x (n - 1)) × Divides (w * n * 1000000) x r (w * n * 1000000 % x) ⌝ }
+    ensures { λ r. ⌜ (r ≡ weight x (n - 1)) × Divides (w * n * MILLION) x r (w * n * MILLION % x) ⌝ }
 {
     let before = muldiv::scaled(w, n * MILLION, x);
     before.quotient
 }
 
-// t, the bound on the weights past n, given w(n), for n jumps of at least q. The remainder of (w(n) + n - m) * X by
+// t, the bound on the weights past n, given w(n), for n not below q. The remainder of (w(n) + n - m) * X by
 // (n + 1) * 1,000,000 - X is dropped. Below q that divisor could be 0.
 fn tail_bound(w: u64, x: u64, n: u64) -> u64
-    requires { ⌜ (w ≡ weight x n) × (x ≤ n * 1000000) × (n < LEVELS) × (x ≤ 256000000) ⌝ }
-    ensures { λ t. ⌜ (t ≡ tailBound x n) × Divides ((w + n - mode x) * x) ((n + 1) * 1000000 - x) (t - 1) ((w + n - mode x) * x % ((n + 1) * 1000000 - x)) ⌝ }
+    requires { ⌜ (w ≡ weight x n) × (x ≤ n * MILLION) × (n < LEVELS) × (x ≤ 256000000) ⌝ }
+    ensures { λ t. ⌜ (t ≡ tailBound x n) × Divides ((w + n - mode x) * x) ((n + 1) * MILLION - x) (t - 1) ((w + n - mode x) * x % ((n + 1) * MILLION - x)) ⌝ }
 {
     let m = mode_of(x);
     let past = muldiv::scaled(w + n - m, x, (n + 1) * MILLION - x);
     1 + past.quotient
 }
 
-// What t may be, given S(n): its product with the tolerance, of which the remainder by 10^9 is dropped.
+// The most that t may be, given S(n): S(n) * tolerance by 10^9. The remainder is dropped.
 fn allowance(sum: u64, tolerance: u64) -> u64
     requires { ⌜ (sum < 2 ^ 62) × (tolerance ≤ 100000000) ⌝ }
-    ensures { λ a. ⌜ (a ≡ sum * tolerance / 1000000000) × Divides (sum * tolerance) 1000000000 a (sum * tolerance % 1000000000) ⌝ }
+    ensures { λ a. ⌜ (a ≡ sum * tolerance / BILLION) × Divides (sum * tolerance) BILLION a (sum * tolerance % BILLION) ⌝ }
 {
     let allowed = muldiv::scaled(sum, tolerance, BILLION);
     allowed.quotient

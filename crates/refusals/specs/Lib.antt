@@ -1,3 +1,2 @@
--- What the contracts cite besides document 01's definitions, and the rows' tests as the proofs cite them.
+-- What the contracts cite besides document 01's definitions.
 pub mod Rated
-pub mod Limits

@@ -14,8 +14,8 @@ use definitions::Remainders;
 use definitions::Rests;
 use definitions::Sizes;
 
-// The remainders of U(n,r) at state i, counted from 0, of a chain that stands in arrays: V is divided from U(n-1,r), W from
-// U(n,r-1) at i, and U from V and W.
+// The remainders of U(n,r) at state i, counted from 0, of a chain that stands in arrays: V comes from U(n-1,r), W from U(n,r-1)
+// at i, and U from V and W.
 fn rests_at(sizes: Sizes, chain: &[u32], rewards: &[u64; 64], n: u64, r: usize, i: usize) -> Rests
     requires { ⌜ Askable sizes (now chain) (now rewards) n r i ⌝ }
     ensures { λ x. ⌜ x ≡ restsAt (arrays sizes (now (chain .entry)) (now (rewards .entry))) n r i ⌝ }
@@ -35,7 +35,7 @@ fn rests_at(sizes: Sizes, chain: &[u32], rewards: &[u64; 64], n: u64, r: usize, 
     }
 }
 
-// The remainders of an accepted file, for state, n and r within their limits: what it states is read, and worked from there.
+// The remainders of an accepted file, for state, n and r within their limits. What the file states is read into arrays.
 fn rests_of(file: &[u8], sums: &[u64; 64], sizes: Sizes, state: u64, n: u64, r: u64) -> Rests
     requires { ⌜ AcceptedModel (now file) × Inside (modelOf (now file)) state n r ⌝ }
     requires { ⌜ (now sums ≡ padded (modelOf (now file) .states) (rowSum (modelOf (now file)))) × (sizes ≡ sizesOf (modelOf (now file))) ⌝ }
@@ -59,8 +59,8 @@ fn level_of(file: &[u8], rate: u64) -> u64
     cut.level
 }
 
-// Whether there is no such U(n,r): the state is outside 1 to M, n outside 1 to N or r outside 1 to R.
-fn lacks(sizes: Sizes, level: u64, state: u64, n: u64, r: u64) -> bool
+// Whether the state is outside 1 to M, n outside 1 to N or r outside 1 to R.
+fn any_outside(sizes: Sizes, level: u64, state: u64, n: u64, r: u64) -> bool
     ensures { λ b. ⌜ b ≡ (outside state (sizes .states) || outside n level || outside r (sizes .highest)) ⌝ }
 {
     if refusals::outside(state, sizes.states as u64) {
@@ -80,14 +80,15 @@ fn of_accepted(file: &[u8], state: u64, n: u64, r: u64) -> Remainders
     let sums = reader::row_sums(file);
     let sizes = reader::sizes_of(file, &sums);
     let level = level_of(file, sizes.rate);
-    if lacks(sizes, level, state, n, r) {
+    if any_outside(sizes, level, state, n, r) {
         return Remainders::Nothing;
     }
     Remainders::Given(rests_of(file, &sums, sizes, state, n, r))
 }
 
-// The call: the first of rows 1 to 12 that holds, before all else; nothing where the file has no U(n,r) at the state, counted
-// from 1; or what its three divisions leave, each quotient of which is the one that the vectors hold.
+// The call: the first of rows 1 to 12 that holds, before all else; nothing where the state, counted from 1, is outside 1 to M,
+// n outside 1 to N or r outside 1 to R; or what the three divisions of U(n,r) at the state leave. Their quotients are those that
+// the vectors hold.
 pub fn remainders(file: &[u8], state: u64, n: u64, r: u64) -> Remainders
     ensures answer { λ a. ⌜ remaindersAnswer a ≡ remaindersOf (now (file .entry)) state n r ⌝ }
     ensures worked { λ a. ⌜ WorkedOut (remaindersAnswer a) (now (file .entry)) state n r ⌝ }

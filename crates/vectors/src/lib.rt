@@ -87,7 +87,7 @@ fn ones(states: usize) -> [u64; 64]
     next
 }
 
-// U(0,r) of U(0,r-1), same: W at the states, and 0 past them. It reads no chain.
+// U(0,r) of U(0,r-1), same: W at the states, its remainder dropped, and 0 past them. It reads no chain.
 fn shares(sizes: Sizes, rewards: &[u64; 64], same: [u64; 64]) -> [u64; 64]
     requires { ⌜ RewardsReady sizes (now rewards) × Ticks (sizes .states) same ⌝ }
     ensures { λ u. ⌜ ((c : List ℕ) → u ≡ padded (sizes .states) (λ i. rewardShare (arrays sizes c (now (rewards .entry))) (getD same i 0) i)) ⌝ }

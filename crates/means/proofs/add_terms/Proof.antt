@@ -6,7 +6,6 @@ use mathlib.Core.Logic.{⊎-elim}
 use mathlib.Core.List.{List, []}
 use lib.ListN.{length, getD, length-set}
 use Rattle.definitions.specs.Sums.{over}
-use Rattle.definitions.specs.Vectors.{ONE}
 use Rattle.definitions.specs.Moment.{term}
 use Rattle.laws.specs.Rounding.{row-of-place}
 use Rattle.laws.specs.ListLaws.{over-none, over-store, getD-over-past}

@@ -1,8 +1,7 @@
 -- `poisson::passes` meets its contract. Assumes nothing.
-use mathlib.Core.Path.{_≡_, ap, sym, _∙_}
+use mathlib.Core.Path.{ap, sym, _∙_}
 use Prim.Native.Nat.{ℕ, _*_, _/_}
 use native.Mathlib.Omega.{arith}
-use borrow.Author.Needs.{needs}
 use Rattle.definitions.specs.Level.{BILLION, allowance}
 use Rattle.laws.specs.WeightLaws.{weightSum-max}
 use Rattle.poisson.proofs.Search.{too-early, tested}

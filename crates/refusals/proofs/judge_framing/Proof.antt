@@ -12,7 +12,7 @@ use borrow.Author.Tests.{lt-ltb, le-ltb}
 use Rattle.definitions.specs.File.{lengthField, version, stateCount}
 use Rattle.definitions.specs.Rules.{framing, judgedBy}
 use Rattle.laws.specs.RuleLaws.{row-stops, row-passes, none-left, differ, agree}
-use Rattle.laws.specs.Acceptance.{in-range}
+use Rattle.laws.specs.RowLaws.{in-range}
 use Rattle.refusals.proofs.judge_framing.Statement.{statement}
 use Rattle.refusals.proofs.judge_framing.Tie as tie
 

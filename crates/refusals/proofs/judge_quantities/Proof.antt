@@ -12,7 +12,7 @@ use Rattle.definitions.specs.File.{timeField}
 use Rattle.definitions.specs.Chain.{modelOf, uniformRate}
 use Rattle.definitions.specs.Rules.{accepted, startsAtZero, quantities, firstHeld}
 use Rattle.laws.specs.RuleLaws.{row-stops, row-passes, none-left}
-use Rattle.refusals.specs.Limits.{rewards-over, rewards-within, no-reward, some-reward, sums-over, sums-within}
+use Rattle.laws.specs.RowLaws.{rewards-over, rewards-within, no-reward, some-reward, sums-over, sums-within}
 use Rattle.refusals.proofs.judge_quantities.Statement.{statement}
 use Rattle.refusals.proofs.judge_quantities.Tie as tie
 

@@ -8,8 +8,7 @@ use lib.ListN.{length, drop}
 use borrow.Author.Needs.{needs}
 use Rattle.definitions.specs.Rules.{Answer, refused, Rows, outside, listing, lastTime, jumps, room, blockSize, judgedBy, verdict}
 use Rattle.laws.specs.RuleLaws.{row-stops, row-passes, andThen, in-parts}
-use Rattle.laws.specs.RowLaws.{same-room, too-few, enough}
-use Rattle.laws.specs.Acceptance.{in-range}
+use Rattle.laws.specs.RowLaws.{in-range, same-room, too-few, enough}
 use Rattle.refusals.proofs.judge_times.Statement.{statement}
 use Rattle.refusals.proofs.judge_times.Tie as tie
 
@@ -68,7 +67,7 @@ past-rows : (c : tie.After-judge-room) → judgedBy (listed (start-room c)) ≡ 
 unfolding listing jumps
 past-rows c =
     let start = start-room c in
-    let given = c .judge-room .ensures ∙ same-room (length (times start) * blockSize (start .args .file .now)) (start .args .cells) refl (omega arith) in
+    let given = c .judge-room .ensures ∙ same-room (length (times start) * blockSize (start .args .file .now)) (start .args .cells) (omega arith) (omega arith) in
     past-12 (c .before)
     ∙ in-parts (blocks start) (levels start) tt tt
     ∙ ap (λ (a : Answer (Unit {0})). andThen a (judgedBy (levels start))) (sym given)

@@ -5,9 +5,9 @@ use Prim.Native.Nat.{ℕ}
 use borrow.Author.Needs.{needs}
 use Rattle.definitions.specs.declared.Sizes.{Sizes}
 use Rattle.definitions.specs.declared.Rests.{Rests}
-use Rattle.definitions.specs.Chain.{Model, modelOf}
+use Rattle.definitions.specs.Chain.{modelOf}
 use Rattle.definitions.specs.Rules.{accepted, outside}
-use Rattle.definitions.specs.Remainders.{Maybe, given, lacks}
+use Rattle.definitions.specs.Remainders.{given, anyOutside}
 use Rattle.laws.specs.RemainderLaws.{rests-none, rests-given, inside}
 use Rattle.remainders.proofs.of_accepted.Statement.{statement}
 use Rattle.remainders.proofs.of_accepted.Tie as tie
@@ -16,12 +16,12 @@ level-of-requires : tie.Need-level-of-requires
 level-of-requires c κs = (c .before .before .before .before .pre, ap (λ (z : Sizes). z .rate) (c .sizes-of .ensures))
 
 -- the test is that of the file's model
-tested : (c : tie.After-lacks) →
+tested : (c : tie.After-any-outside) →
     let args = c .before .before .before .before .before .before .args in
-    c .lacks .result ≡ lacks (modelOf (args .file .now)) (args .state) (args .n) (args .r)
+    c .any-outside .result ≡ anyOutside (modelOf (args .file .now)) (args .state) (args .n) (args .r)
 tested c =
     let args = c .before .before .before .before .before .before .args in
-    c .lacks .ensures
+    c .any-outside .ensures
     ∙ ap₂ (λ (z : Sizes) (N : ℕ). outside (args .state) (z .states) || outside (args .n) N || outside (args .r) (z .highest)) (c .before .before .sizes-of .ensures) (c .before .level-of .ensures)
 
 returns : tie.Need-returns

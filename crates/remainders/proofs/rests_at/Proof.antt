@@ -1,5 +1,5 @@
 -- `remainders::rests_at` meets its contract: each division is that of the vectors. Assumes nothing.
-use Prim.Native.Nat.{ℕ, _+_, _*_, _-_, _/_, _%_, _<_}
+use Prim.Native.Nat.{ℕ, _+_, _-_, _/_, _%_}
 use mathlib.Core.List.{List, []}
 use mathlib.Core.Path.{_≡_, refl, ap, ap₂, _∙_}
 use native.Mathlib.Omega.{arith}
@@ -8,12 +8,13 @@ use lib.ListN.{getD}
 use Rattle.definitions.specs.declared.Division.{Division}
 use Rattle.definitions.specs.Division.{division}
 use Rattle.definitions.specs.Chain.{Chain, arrays}
-use Rattle.definitions.specs.Vectors.{rowTotal, rowMean, rewarded, rewardShare, mixed, U, vector}
+use Rattle.definitions.specs.Vectors.{rowTotal, rowMean, rewardProduct, rewardShare, mixed, U, vector}
 use Rattle.definitions.specs.Remainders.{meanOf, meanDividend, shareOf, shareDividend, mixDividend, restsAt}
 use Rattle.laws.specs.Rounding.{quotient, remainder}
 use Rattle.laws.specs.ChainLaws.{itself}
 use Rattle.laws.specs.ArrayLaws.{zeros, entryOf}
 use Rattle.laws.specs.VectorLaws.{rowTotal-same}
+use Rattle.laws.specs.RemainderLaws.{same-rests}
 use Rattle.vectors.specs.Ready.{StepReady}
 use Rattle.vectors.specs.ReadyLaws.{row-ready, mix-ready}
 use Rattle.vectors.specs.Table.{blank}
@@ -62,9 +63,9 @@ module _ (d : tie.After-next-table) where
       rowTotal-same ch ch (entryOf before) (U ch (start .args .n - 1) (start .args .r)) (start .args .i) (itself ch) (omega arith)
       (λ j l. ap (λ (v : List ℕ). getD v j 0) is-before ∙ getD-vector ch (omega arith) (start .args .n - 1) (start .args .r) j l)
 
-  product : rewarded ch (getD same (start .args .i) 0) (start .args .i) ≡ shareDividend ch (start .args .n) (start .args .r) (start .args .i)
+  product : rewardProduct ch (getD same (start .args .i) 0) (start .args .i) ≡ shareDividend ch (start .args .n) (start .args .r) (start .args .i)
   product =
-      ap (λ (x : ℕ). rewarded ch x (start .args .i))
+      ap (λ (x : ℕ). rewardProduct ch x (start .args .i))
       (ap (λ (v : List ℕ). getD v (start .args .i) 0) is-same ∙ getD-vector ch (omega arith) (start .args .n) (start .args .r - 1) (start .args .i) (omega arith))
 
 table-at-requires : tie.Need-table-at-requires
@@ -136,7 +137,7 @@ module _ (c : tie.After-mix) where
 
 returns : tie.Need-returns
 unfolding restsAt
-returns c = λ k. record { mean = mean-leaves c k; share = share-leaves c k; mix = mix-leaves c k }
+returns c = same-rests _ _ (omega (arith, mean-leaves c)) (omega (arith, share-leaves c)) (omega (arith, mix-leaves c))
 
 pub rests-at-spec : {M : Type 1} → statement M
 rests-at-spec =

@@ -1,5 +1,5 @@
 -- `remainders::rests_of` meets its contract: what is read of the file is its model, and the arrays leave what the model leaves. Assumes nothing.
-use Prim.Native.Nat.{_*_, _-_, _≤_, _<_, _^_}
+use Prim.Native.Nat.{_*_, _-_, _≤_}
 use mathlib.Core.Path.{_≡_, _∙_, ap}
 use native.Mathlib.Omega.{arith}
 use borrow.Author.Needs.{needs}
@@ -7,13 +7,11 @@ use Rattle.definitions.specs.declared.Sizes.{Sizes}
 use Rattle.definitions.specs.File.{stateCount}
 use Rattle.definitions.specs.Chain.{Model, modelOf, chainOf, uniformRate, jumpMillionths}
 use Rattle.definitions.specs.Moment.{modelLevel}
-use Rattle.definitions.specs.Remainders.{restsAt}
-use Rattle.laws.specs.ChainLaws.{square-max, arrays-same}
+use Rattle.laws.specs.ChainLaws.{square-max}
 use Rattle.laws.specs.ArrayLaws.{zeros}
 use Rattle.laws.specs.LevelLaws.{level-max}
 use Rattle.laws.specs.RemainderLaws.{rests-same}
 use Rattle.vectors.specs.ModelLaws.{Held, held-ready, held-same}
-use Rattle.remainders.specs.Asked.{Askable}
 use Rattle.remainders.proofs.rests_of.Statement.{statement}
 use Rattle.remainders.proofs.rests_of.Tie as tie
 

@@ -2,7 +2,6 @@
 use mathlib.Core.Path.{ap}
 use native.Mathlib.Nat.{mul-le-mul}
 use native.Mathlib.Omega.{arith}
-use borrow.Author.Needs.{needs}
 use Rattle.laws.specs.Rounding.{quotient, remainder, same-parts}
 use Rattle.vectors.proofs.reward_share.Statement.{statement}
 use Rattle.vectors.proofs.reward_share.Tie as tie

@@ -1,5 +1,5 @@
 -- `vectors::table_at` meets its contract. The invariant: the table is that of k. Assumes nothing.
-use Prim.Native.Nat.{ℕ, _+_, _-_, _≤_}
+use Prim.Native.Nat.{_+_, _-_, _≤_}
 use native.Mathlib.Omega.{arith}
 use mathlib.Core.Path.{_≡_}
 use Rattle.definitions.specs.Chain.{arrays}

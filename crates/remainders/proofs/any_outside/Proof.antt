@@ -1,12 +1,12 @@
--- `remainders::lacks` meets its contract. Assumes nothing.
+-- `remainders::any_outside` meets its contract. Assumes nothing.
 use mathlib.Core.Path.{_≡_, refl, _∙_, sym}
 use mathlib.Core.Bool.{true, false}
 use native.Mathlib.Omega.{arith}
 use borrow.Author.Needs.{needs}
 use Rattle.definitions.specs.Rules.{outside}
 use Rattle.laws.specs.RowLaws.{same-limit}
-use Rattle.remainders.proofs.lacks.Statement.{statement}
-use Rattle.remainders.proofs.lacks.Tie as tie
+use Rattle.remainders.proofs.any_outside.Statement.{statement}
+use Rattle.remainders.proofs.any_outside.Tie as tie
 
 -- the state, or n, is within its limits
 state-inside : (c : tie.Else1) → outside (c .before .before .args .state) (c .before .before .args .sizes .states) ≡ false
@@ -34,5 +34,5 @@ returns-3 c =
     let args = c .before .before .before .before .before .args in
     rw (state-inside (c .before .before .before), jumps-inside (c .before)) (c .outside3 .ensures ∙ same-limit (args .r) (args .sizes .highest) (omega arith))
 
-pub lacks-spec : {M : Type 1} → statement M
-lacks-spec = tie.close (tie.spec (λ c κs. search needs) returns (λ c κs. search needs) returns-2 (λ c κs. search needs) returns-3)
+pub any-outside-spec : {M : Type 1} → statement M
+any-outside-spec = tie.close (tie.spec (λ c κs. search needs) returns (λ c κs. search needs) returns-2 (λ c κs. search needs) returns-3)
