@@ -22,7 +22,7 @@ module _ {A : Type 0} where
   firsts-further a (suc n) f = rw add-suc (ap (λ (l : List A). l ++ (f (a + n) ∷ [])) (firsts-further a n f) ∙ append-assoc (firsts a f) (firsts n (λ i. f (a + i))) (f (a + n) ∷ []))
 
   -- a list filled up to a, whose part from a on is filled up to n, is filled up to a + n
-  pub over-part : (a n : ℕ) (f g : ℕ → A) (l now : List A) → now ≡ over a f l → ((i : ℕ) → i < n → g i ≡ f (a + i)) → take a now ++ over n g (drop a now) ≡ over (a + n) f l
+  over-part : (a n : ℕ) (f g : ℕ → A) (l now : List A) → now ≡ over a f l → ((i : ℕ) → i < n → g i ≡ f (a + i)) → take a now ++ over n g (drop a now) ≡ over (a + n) f l
   unfolding over
   over-part a n f g l now e same =
       ap₂ (λ (x y : List A). x ++ (firsts n g ++ drop n y)) (ap (take a) e ∙ take-at (firsts a f) (drop a l) a (length-firsts a f)) (ap (drop a) e ∙ drop-at (firsts a f) (drop a l) a (length-firsts a f))
@@ -31,7 +31,7 @@ module _ {A : Type 0} where
       ∙ ap (λ (x : List A). x ++ drop (a + n) l) (sym (firsts-further a n f))
 
   -- an entry of a part of k entries from a on
-  pub getD-part : (d : A) (a k : ℕ) (l : List A) (i : ℕ) → i < k → getD (take k (drop a l)) i d ≡ getD l (a + i) d
+  getD-part : (d : A) (a k : ℕ) (l : List A) (i : ℕ) → i < k → getD (take k (drop a l)) i d ≡ getD l (a + i) d
   getD-part d a k l i h = getD-take k (drop a l) i d h ∙ getD-drop a l i d
 
   -- such a part, filled up to n and put back
@@ -59,7 +59,7 @@ module _ {A : Type 0} where
         ∙ ap₂ f (row-of-place k c size hc) (place-in-row k c size hc)
 
     -- what stands past the blocks is as it was
-    pub getD-blocks-past : (d : A) (count : ℕ) (f : ℕ → ℕ → A) (l : List A) (i : ℕ) → count * size ≤ i → getD (blocks size count f l) i d ≡ getD l i d
+    getD-blocks-past : (d : A) (count : ℕ) (f : ℕ → ℕ → A) (l : List A) (i : ℕ) → count * size ≤ i → getD (blocks size count f l) i d ≡ getD l i d
     unfolding blocks
     getD-blocks-past d count f l i h = getD-over-past d (count * size) (λ p. f (p / size) (p % size)) l i h
 
@@ -80,7 +80,7 @@ module _ {A : Type 0} where
         some p h = elim (decLt 0 size) [ yes pos ↦ pos | no q ↦ absurd (let none : size ≡ 0 = omega (arith, q) in omega (arith, rw none at h)) ]
 
     -- the next block filled: one turn of every loop that fills a list block by block
-    pub blocks-store : (k : ℕ) (f : ℕ → ℕ → A) (g : ℕ → A) (l now : List A) → now ≡ blocks size k f l → ((c : ℕ) → c < size → g c ≡ f k c) → take (k * size) now ++ over size g (drop (k * size) now) ≡ blocks size (k + 1) f l
+    blocks-store : (k : ℕ) (f : ℕ → ℕ → A) (g : ℕ → A) (l now : List A) → now ≡ blocks size k f l → ((c : ℕ) → c < size → g c ≡ f k c) → take (k * size) now ++ over size g (drop (k * size) now) ≡ blocks size (k + 1) f l
     unfolding blocks
     blocks-store k f g l now e same =
         over-part (k * size) size (λ p. f (p / size) (p % size)) g l now e

@@ -3,6 +3,7 @@ pub mod Rounding
 pub mod Nearest
 pub mod SumLaws
 pub mod ListLaws
+pub mod ByteLaws
 pub mod BlockLaws
 pub mod ChainLaws
 pub mod ArrayLaws

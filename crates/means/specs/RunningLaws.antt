@@ -11,7 +11,7 @@ use borrow.Author.Tests.{le-leb, lt-leb}
 use Rattle.definitions.specs.declared.Sizes.{Sizes}
 use Rattle.definitions.specs.Sums.{over, blocks}
 use Rattle.definitions.specs.Chain.{Chain, arrays}
-use Rattle.definitions.specs.Vectors.{ONE, U}
+use Rattle.definitions.specs.Vectors.{U}
 use Rattle.definitions.specs.Weights.{GREATEST}
 use Rattle.definitions.specs.Moment.{term}
 use Rattle.laws.specs.Rounding.{row-of-place}

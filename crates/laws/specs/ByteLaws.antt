@@ -1,0 +1,49 @@
+-- Numbers in lists of bytes: which bytes a number is read from, and that what is stored is read.
+use Prim.Native.Nat.{ℕ, zero, suc, _+_, _*_, _/_, _%_, _≤_, _<_, _^_}
+use native.Mathlib.Omega.{arith}
+use native.Mathlib.Nat.{pow-suc}
+use mathlib.Core.Path.{_≡_, refl, _∙_, ap, ap₂}
+use mathlib.Core.List.{List, [], _∷_, _++_}
+use lib.ListN.{length, getD, set, length-append}
+use lib.Seq.{sets, getD-set-same, getD-set-other, length-sets}
+use Rattle.definitions.specs.Bytes.{big, bytesOf}
+use Rattle.laws.specs.Rounding.{quotient-remainder, quotient-below}
+
+-- a number is read from the bytes at its place alone
+pub big-same : (width at : ℕ) (s t : List ℕ) → ((i : ℕ) → i < width → getD s (at + i) 0 ≡ getD t (at + i) 0) → big width s at ≡ big width t at
+unfolding big
+big-same zero at s t h = refl
+big-same (suc width) at s t h =
+    ap₂ (λ (a b : ℕ). a * 256 + b) (big-same width at s t (λ i b. h i (omega arith))) (h width (omega arith))
+
+-- what stands before a run of stores, and after it, is as it was
+pub sets-before : (l : List ℕ) (i : ℕ) (vs : List ℕ) (k : ℕ) → k < i → getD (sets l i vs) k 0 ≡ getD l k 0
+sets-before l i [] k h = refl
+sets-before l i (v ∷ vs) k h = sets-before (set l i v) (suc i) vs k (omega arith) ∙ getD-set-other l i k v 0 (λ e. omega arith)
+
+pub sets-after : (l : List ℕ) (i : ℕ) (vs : List ℕ) (k : ℕ) → i + length vs ≤ k → getD (sets l i vs) k 0 ≡ getD l k 0
+sets-after l i [] k h = refl
+sets-after l i (v ∷ vs) k h = sets-after (set l i v) (suc i) vs k (omega arith) ∙ getD-set-other l i k v 0 (λ e. omega arith)
+
+-- a run of stores with one more behind it
+sets-more : (l : List ℕ) (i : ℕ) (vs : List ℕ) (v : ℕ) → sets l i (vs ++ (v ∷ [])) ≡ set (sets l i vs) (i + length vs) v
+sets-more l i [] v = ap (λ (k : ℕ). set l k v) (omega arith)
+sets-more l i (w ∷ vs) v = sets-more (set l i w) (suc i) vs v ∙ ap (λ (k : ℕ). set (sets (set l i w) (suc i) vs) k v) (omega arith)
+
+pub length-bytes : (width n : ℕ) → length (bytesOf width n) ≡ width
+unfolding bytesOf
+length-bytes zero n = refl
+length-bytes (suc width) n = length-append (bytesOf width (n / 256)) (n % 256 ∷ []) ∙ omega (arith, length-bytes width (n / 256))
+
+-- a number that is stored in so many bytes, and fits them, is read
+pub big-stored : (width n : ℕ) (s : List ℕ) (at : ℕ) → at + width ≤ length s → n < 256 ^ width → big width (sets s at (bytesOf width n)) at ≡ n
+unfolding big bytesOf
+big-stored zero n s at room fits = omega arith
+big-stored (suc width) n s at room fits =
+    let before : List ℕ = sets s at (bytesOf width (n / 256)) in
+    let stored : sets s at (bytesOf width (n / 256) ++ (n % 256 ∷ [])) ≡ set before (at + width) (n % 256) = sets-more s at (bytesOf width (n / 256)) (n % 256) ∙ ap (λ (k : ℕ). set before (at + k) (n % 256)) (length-bytes width (n / 256)) in
+    let power : 256 ^ suc width ≡ 256 ^ width * 256 = pow-suc 256 width in
+    let upper : big width before at ≡ n / 256 = big-stored width (n / 256) s at (omega arith) (quotient-below n (256 ^ width) 256 (omega (arith, power, fits))) in
+    let kept = big-same width at (set before (at + width) (n % 256)) before (λ i b. getD-set-other before (at + width) (at + i) (n % 256) 0 (λ e. omega arith)) in
+    let last = getD-set-same before (at + width) (n % 256) 0 (omega (arith, length-sets s at (bytesOf width (n / 256)))) in
+    rw stored (omega (arith, upper, kept, last, quotient-remainder n 256))
