@@ -1,7 +1,7 @@
 /* Moments of the accumulated reward of a repairable system, and their truncation level: document 01's
  * calculation, its last division rounded to the nearest tick (document 02, S-1), at one time or at several (S-3), and
- * what its divisions leave over (S-4), for C. `./build kuldrepso` makes the library, libkuldrepso.a (x86-64), and prints its path; it needs nothing but memcpy
- * and memset. The contracts of its calls are proved: crates/kuldrepso/src/lib.rt. */
+ * what its divisions leave over (S-4), for C. `./build kuldrepso` makes the library, libkuldrepso.a (x86-64), and prints
+ * its path; it needs nothing but memcpy and memset. The contracts of its calls are proved: crates/kuldrepso/src/lib.rt. */
 #ifndef KULDREPSO_H
 #define KULDREPSO_H
 
@@ -88,9 +88,9 @@ uint64_t kuldrepso_series(const uint8_t *file, size_t file_length, const uint32_
  *   KULDREPSO_REFUSED + k   where row k, from 1 to 12, is the first that holds, whatever state, n and r are. The three
  *                           numbers are as they were.
  *
- * Any state, n and r get an answer, UINT64_MAX too. A caller owes what is owed to kuldrepso_calculate, here for one slice
- * and three numbers: no pointer may be null, and none of the numbers may overlap another or the file. It takes less than
- * 128 KB of stack. */
+ * Any state, n and r get an answer, UINT64_MAX too. A call works out all vectors from n = 0 up to n. A caller owes what is
+ * owed to kuldrepso_calculate, here for one slice and three numbers: no pointer may be null, and none of the numbers may
+ * overlap another or the file. It takes less than 128 KB of stack. */
 uint64_t kuldrepso_remainders(const uint8_t *file, size_t file_length, uint64_t state, uint64_t n, uint64_t r,
                               uint64_t *mean, uint64_t *share, uint64_t *mix);
 
