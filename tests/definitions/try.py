@@ -1,19 +1,22 @@
 #!/usr/bin/env python3
-"""The definitions tried by an outside program: what the reference says of small generated files, alone and with lists
-of times, as theorems.
+"""The definitions tried by an outside program: what the reference says of small generated files, alone, with lists of
+times and with a state, n and r, as theorems.
 
     python3 tests/definitions/try.py             every statement must be proved
     python3 tests/definitions/try.py --wrong     one number of each kind in a case is altered; each must be refused
-    --seed N    other files and times          --keep    leave the scratch crate, and say where it stands
+    --seed N    other files and numbers        --keep    leave the scratch crate, and say where it stands
 
 Each file is a theorem three times: what a call answers (the level, or the refusal's number), all cells after
 the call (also those past the moments, which stay), and the bytes of the printed sheet. Each file with a list of
 times (document 02, S-3) is one three times too: what the list's table answers, all level cells and all block cells
 after the call (also those past the last level and block, which stay). A fourth says which bytes the file has with
-the list's last time in the place of its own, where the list is accepted or row 12 stops it. The numbers are the
-reference's. The theorems stand in a scratch crate outside the repository, which cites crates/definitions and is
-checked by `rt check DIR`. A refusal counts only where the prover names the altered statement and says that its
-two sides differ, and for each kind of number it must have shown the right and the altered one side by side.
+the list's last time in the place of its own, where the list is accepted or row 12 stops it. Each file with a state,
+n and r (S-4) is one four times: what the call answers (the rests of V, W and U, none, or the refusal's number), and
+each of the three numbers after the call (which stay where no rests are given). Where they are given, a fifth says the
+quotients V, W and U. The numbers are the reference's. The theorems stand in a scratch crate outside the repository,
+which cites crates/definitions and is checked by `rt check DIR`. A refusal counts only where the prover names the
+altered statement and says that its two sides differ, and for each kind of number it must have shown the right and the
+altered one side by side.
 """
 
 import copy
@@ -38,15 +41,17 @@ import models  # noqa: E402
 # --- All that names a definition. Those to unfold are read from the crate's specs/ (`unfoldable`). ------------
 
 HEAD = """\
-use Prim.Native.Nat.{ℕ}
+use Prim.Native.Nat.{ℕ, _-_}
 use mathlib.Core.List.{List, [], _∷_}
 use mathlib.Core.Path.{_≡_, refl}
-use lib.ListN.{length}
+use lib.ListN.{length, getD}
+use Rattle.definitions.specs.Chain.{modelOf, chainOf}
 use Rattle.definitions.specs.Rules.{accepted, refused, lastTime}
+use Rattle.definitions.specs.Remainders.{given, none, numberAfter, meanOf, shareOf}
 """
 USE = "use Rattle.definitions.specs.{module}.{{{names}}}\n"
 LENT = """
-abbrev {name} : List ℕ
+abbrev {name} : {type}
 {name} = {value}
 """
 THEOREM = """
@@ -54,7 +59,13 @@ pub {name}-{label} : {left} ≡ {right}
 unfolding {unfolded}
 {name}-{label} = refl
 """
-ANSWER = {"level": "accepted {}", "refused": "refused {}", "times": "accepted tt"}
+ANSWER = {
+    "level": "accepted {}",
+    "refused": "refused {}",
+    "times": "accepted tt",
+    "given": "accepted (given (record {{ mean = {}; share = {}; mix = {} }}))",
+    "none": "accepted none",
+}
 LEFT = {
     "calculate": {
         "answer": "outcome {file} (length {cells})",
@@ -67,6 +78,13 @@ LEFT = {
         "cells": "blocksAfter (seriesJudgement {file} {times} (length {levels}) (length {cells})) {file} {times} {cells}",
         "file": "withTime {file} (lastTime {times})",
     },
+    "remainders": {
+        "answer": "remaindersOf {file} {state} {n} {r}",
+        "mean": "numberAfter (remaindersOf {file} {state} {n} {r}) (λ x. x .mean) (getD {mean} 0 0) ∷ []",
+        "share": "numberAfter (remaindersOf {file} {state} {n} {r}) (λ x. x .share) (getD {share} 0 0) ∷ []",
+        "mix": "numberAfter (remaindersOf {file} {state} {n} {r}) (λ x. x .mix) (getD {mix} 0 0) ∷ []",
+        "quotients": "meanOf (chainOf (modelOf {file})) {n} {r} ({state} - 1) ∷ shareOf (chainOf (modelOf {file})) {n} {r} ({state} - 1) ∷ U (chainOf (modelOf {file})) {n} {r} ({state} - 1) ∷ []",
+    },
 }
 
 # --- The files ------------------------------------------------------------------------------------------------
@@ -74,7 +92,8 @@ LEFT = {
 # Models of the comparison kit whose last division leaves half of its divisor for some moment, or a little less or more.
 HALVES = ["half-tick-3", "half-tick-to-one-1", "half-tick-to-one-less", "half-tick-to-a-tick-1", "half-tick-to-a-tick-less", "half-tick-one-less-2", "half-tick-to-0-1-more"]
 
-# A call of the reference with what is lent to it, {parameter: value}, and the rule that stops it (0: none).
+# A call of the reference with what is lent to it, {parameter: value}, and what stops it: the number of a rule, or "none"
+# where the file has no such U(n,r); 0 where nothing does.
 Case = namedtuple("Case", "call name rule given")
 
 
@@ -85,12 +104,12 @@ def small(rng, M, R, most=1_000_000, T=2):
     return models.valid(M, R, models.log_uniform(rng, 1, models.MAX_TOLERANCE), T, rewards, rates)
 
 
-def accepted_files(rng):
-    """(name, bytes) of files that no rule stops."""
+def accepted_fields(rng):
+    """The fields of files that no rule stops, by name."""
     absorbing, unrewarded = small(rng, 3, 2), small(rng, 3, 1)
     absorbing["rates"][rng.randrange(3)] = [0, 0]
     unrewarded["rewards"][rng.randrange(3)] = 0
-    fields = {
+    return {
         "one-state": small(rng, 1, 1),
         "one-state-q-above-1": small(rng, 1, 3, T=rng.randint(1_000_001, 3_000_000)),
         "two-states": small(rng, 2, 2),
@@ -102,7 +121,11 @@ def accepted_files(rng):
         "at-the-borders": models.valid(2, 1, models.MAX_TOLERANCE, 1, [models.MAX_REWARD, 0], [[models.MAX_ROW_SUM], [rng.randint(1, 9)]]),
         "most-jumps": small(rng, 1, 1, T=256_000_000),
     }
-    made = [(name, models.build(**each)) for name, each in fields.items()]
+
+
+def accepted_files(rng):
+    """(name, bytes) of files that no rule stops."""
+    made = [(name, models.build(**each)) for name, each in accepted_fields(rng).items()]
     return made + [(name, (ROOT / f"conformance/files/{name}.model").read_bytes()) for name in HALVES]
 
 
@@ -198,10 +221,59 @@ def list_cases(rng, files, stopped):
     return result
 
 
+# --- The files with a state, n and r --------------------------------------------------------------------------
+
+RESTS = ("mean", "share", "mix")
+
+# Files that are asked, and whether V, W and U leave a rest there. V leaves none where E is 1, nor where no rate leads out
+# of the state, and there U leaves none either, since V is W. W leaves none where there is one state.
+ASKED = {"three-states": (True, True, True), "rates-of-1": (False, True, True), "absorbing-state": (False, True, False), "no-rates": (False, True, False), "one-state-q-above-1": (False, False, False)}
+
+
+def asked(rng, name, places):
+    """A file with state, n and r: some at their places, the others within their limits. Drawn until the level is from 2
+    to 6, and the rests that are given are above 0 as ASKED has it."""
+    while True:
+        fields = {**accepted_fields(rng), "rates-of-1": small(rng, 2, 2, most=1, T=2_000_000)}
+        file = models.build(**fields[name])
+        limit = inputs.limits(file)
+        numbers = {**inputs.within(rng, limit), **{number: inputs.PLACES[place](limit[number]) for number, place in places.items()}}
+        word, rests = calculator.rests(file, **numbers)
+        if 2 <= limit["n"] <= 6 and (word == "none" or tuple(map(bool, rests)) == ASKED[name]):
+            return dict(file=file, **numbers)
+
+
+def placed():
+    """Where state, n and r stand, by a name: each of them at each of its places, then all at one."""
+    each = {f"{number}-{place}": {number: place} for number in inputs.NUMBERS for place in inputs.PLACES}
+    return {**each, **{f"all-{place}": dict.fromkeys(inputs.NUMBERS, place) for place in ("1", "limit", "largest")}}
+
+
+def refused_numbers(rng, refused):
+    """(rule, file with state, n and r): numbers that no file has with the last file of each rule, 1 with the others."""
+    last = dict(refused)
+    for rule, file in refused:
+        numbers = inputs.all_beyond(rng, inputs.MOST) if file == last[rule] else dict.fromkeys(inputs.NUMBERS, 1)
+        yield rule, dict(file=file, **numbers)
+
+
+def asked_cases(rng, refused):
+    """State, n and r at their places, then within every file of ASKED, then with the refused files."""
+    def case(name, rule, given):
+        before = rng.sample(range(100, 1000), len(RESTS))    # three different ones, above every rest of U
+        return Case("remainders", f"asked-{name}", rule, dict(given, **{rest: [number] for rest, number in zip(RESTS, before)}))
+    result = []
+    for name, places in placed().items():
+        inside = set(places.values()) <= {"1", "limit"}
+        result.append(case(name, 0 if inside else "none", asked(rng, "three-states", places)))
+    result += [case(name, 0, asked(rng, name, {})) for name in ASKED]
+    return result + [case(f"rule-{rule}-{place}", rule, given) for place, (rule, given) in enumerate(refused_numbers(rng, refused))]
+
+
 def cases(rng):
-    """All files alone, then some of them with lists."""
+    """All files alone, then some of them with lists, then files with a state, n and r."""
     accepted, refused = accepted_files(rng), refused_files(rng)
-    return file_cases(rng, accepted, refused) + list_cases(rng, dict(accepted), dict(refused))
+    return file_cases(rng, accepted, refused) + list_cases(rng, dict(accepted), dict(refused)) + asked_cases(rng, refused)
 
 
 # --- What is stated of them -----------------------------------------------------------------------------------
@@ -209,48 +281,70 @@ def cases(rng):
 # One theorem: its case, a label, the part of LEFT that it is about, and the value on the right.
 Fact = namedtuple("Fact", "case label part value")
 
+# The kinds of number in an answer, by its word, and in the parts that always have the same kinds: each with the places
+# where it stands. An answer is a word and numbers; of the file with another time, one of the time's bytes is altered.
+KINDS = {
+    "refused": {"rule": [1]},
+    "level": {"level": [1]},
+    "times": {"acceptance": [0]},
+    "given": {"given": [0], "rest-of-V": [1], "rest-of-W": [2], "rest-of-U": [3]},
+    "none": {"none": [0]},
+    "file": {"byte": range(9, 13)},
+    "quotients": {"V": [0], "W": [1], "U": [2]},
+}
+
+# What an answer becomes where its word is altered.
+OTHER = {"times": ("refused", 13), "given": ("none", 1), "none": ("given", 0, 0, 0)}
+
 
 def right_facts(case):
     """What the reference says of a case."""
     given = copy.deepcopy(case.given)
     answer = getattr(calculator, case.call)(**given)
-    if (answer[1] if answer[0] == "refused" else 0) != case.rule:
+    if {"refused": answer[1], "none": "none"}.get(answer[0], 0) != case.rule:
         sys.exit(f"try.py: {case.name} is answered {answer}: the case does not show what it is for")
-    values = {"answer": answer, **{part: given[part] for part in ("levels", "cells") if part in given}}
+    values = {"answer": answer, **{part: given[part] for part in ("levels", "cells", *RESTS) if part in given}}
     if case.call == "calculate":
         values["sheet"] = list(calculator.sheet(given["file"]))
-    elif case.rule in (0, 12):
+    elif case.call == "series" and case.rule in (0, 12):
         values["file"] = list(inputs.with_time(given["file"], given["times"][-1]))
+    elif answer[0] == "given":
+        values.update(given_values(**{each: given[each] for each in ("file", *inputs.NUMBERS)}))
     return [Fact(case, part, part, value) for part, value in values.items()]
 
 
+def given_values(file, state, n, r):
+    """The answer that gives the rests, and the quotients."""
+    line = next(line for line in calculator.worked(file).lines if (line.state, line.n, line.r) == (state, n, r))
+    word, rests = calculator.rests(file, state, n, r)
+    return {"answer": (word, *rests), "quotients": [line.V, line.W, line.U]}
+
+
 def kinds(fact):
-    """The kinds of number in a fact, each with the places where it stands. An answer is a word and a number, and where it
-    has no number the word is altered; of the file with another time, one of the time's bytes is."""
+    """The kinds of number in a fact, each with the places where it stands."""
     case, part, value = fact.case, fact.part, fact.value
-    if part == "answer":
-        return [{"refused": ("rule", [1]), "level": ("level", [1]), "times": ("acceptance", [0])}[value[0]]]
+    same = KINDS.get(value[0] if part == "answer" else part)
+    if same:
+        return same.items()
     if part == "sheet":
         return [("byte", range(len(value)))]
-    if part == "file":
-        return [("byte", range(9, 13))]
     times = len(case.given["times"]) if case.call == "series" else 1
     name, stays, size = {"levels": ("level", "level-that-stays", 1),
-                         "cells": ("moment", "cell-that-stays", inputs.need(case.given["file"]))}[part]
+                         "cells": ("moment", "cell-that-stays", inputs.need(case.given["file"]))}.get(part, (part, f"{part}-that-stays", 1))
     filled = 0 if case.rule else times * size
     return [(name, range(filled)), (stays, range(filled, len(value)))]
 
 
 def altered(value, place):
-    """A number one off: the answer's, or the one at a place of a list. An acceptance without a number becomes refusal 13."""
-    if isinstance(value, tuple):
-        return (value[0], value[1] ^ 1) if place else ("refused", 13)
-    return value[:place] + [value[place] ^ 1] + value[place + 1:]
+    """An answer or a list with the number at a place one off, or with another word."""
+    if value[place] in OTHER:
+        return OTHER[value[place]]
+    return type(value)([*value[:place], value[place] ^ 1, *value[place + 1:]])
 
 
 def shown(value, place):
     """The number at a place, or the answer's word, as the prover shows it."""
-    return written(value).split()[place] if isinstance(value, tuple) else value[place]
+    return "accepted" if value[place] == "times" else value[place]
 
 
 def wrong_facts(rng, facts):
@@ -274,9 +368,11 @@ def unfoldable():
 
 
 def written(value):
-    """An answer, or a list of numbers, in antt."""
+    """An answer, a number, or a list of numbers, in antt."""
     if isinstance(value, tuple):
-        return ANSWER[value[0]].format(value[1])
+        return ANSWER[value[0]].format(*value[1:])
+    if isinstance(value, int):
+        return str(value)
     return " ∷ ".join([*map(str, value), "[]"])
 
 
@@ -287,7 +383,8 @@ def theorems(facts):
     text = [HEAD] + [USE.format(module=module, names=", ".join(names)) for module, names in modules.items()]
     for case in {fact.case.name: fact.case for fact in facts}.values():
         for what, value in case.given.items():
-            text.append(LENT.format(name=f"{case.name}-lent-{what}", value=written(value)))
+            kind = "ℕ" if isinstance(value, int) else "List ℕ"
+            text.append(LENT.format(name=f"{case.name}-lent-{what}", type=kind, value=written(value)))
     for fact in facts:
         name = fact.case.name
         left = LEFT[fact.case.call][fact.part].format(**{what: f"{name}-lent-{what}" for what in fact.case.given})
@@ -331,8 +428,8 @@ def errors(said):
 def counted(call, facts):
     """The cases and the theorems of a call, in words."""
     of_call = [fact for fact in facts if fact.case.call == call]
-    rules = list({fact.case.name: fact.case.rule for fact in of_call}.values())
-    return f"{call} {len(rules)} cases ({rules.count(0)} accepted, {len(rules) - rules.count(0)} refused), {len(of_call)} theorems"
+    words = Counter({"level": "accepted", "times": "accepted"}.get(fact.value[0], fact.value[0]) for fact in of_call if fact.part == "answer")
+    return f"{call} {sum(words.values())} cases ({', '.join(f'{count} {word}' for word, count in sorted(words.items()))}), {len(of_call)} theorems"
 
 
 def try_right(folder, facts):
@@ -369,7 +466,7 @@ def try_wrong(folder, wrongs):
 
 
 def main():
-    parser = models.Parser(description="State what the reference says of small files, alone and with lists of times, and let the prover check it.")
+    parser = models.Parser(description="State what the reference says of small files, alone, with lists of times and with a state, n and r, and let the prover check it.")
     parser.add_argument("--wrong", action="store_true", help="alter one number of each kind in a case; each must be refused")
     parser.add_argument("--seed", type=int, default=1)
     parser.add_argument("--keep", action="store_true", help="leave the scratch crate")
