@@ -26,6 +26,11 @@ mod definitions {
         Refused(u8),
     }
 
+    pub struct Division {
+        pub quotient: u64,
+        pub remainder: u64,
+    }
+
     #[derive(Clone, Copy)]
     pub struct Sizes {
         pub states: usize,
@@ -199,7 +204,7 @@ mod refusals {
     const MOST_ROW_SUM: u64 = 10_000_000;
     const MOST_JUMPS: u64 = 256_000_000;
 
-    fn outside(x: u64, most: u64) -> bool {
+    pub fn outside(x: u64, most: u64) -> bool {
         x == 0 || x > most
     }
 
@@ -276,10 +281,22 @@ mod refusals {
         reader::jump_millionths(rate, time) > MOST_JUMPS
     }
 
-    fn judge_run(file: &[u8], rate: u64, time: u32, blocks: usize, cells: usize) -> Judgement {
+    fn judge_jumps(rate: u64, time: u32) -> Judgement {
         if too_many_jumps(rate, time) {
             return Judgement::Refused(12);
         }
+        Judgement::Accepted
+    }
+
+    pub fn judge_file(file: &[u8]) -> Judgement {
+        let model = judge_model(file, &[]);
+        match model {
+            Rated::Refused(k) => Judgement::Refused(k),
+            Rated::Rate(rate) => judge_jumps(rate, reader::time(file)),
+        }
+    }
+
+    fn judge_room(file: &[u8], blocks: usize, cells: usize) -> Judgement {
         let block = reader::state_count(file) * reader::highest_moment(file);
         if cells < blocks * block {
             return Judgement::Refused(13);
@@ -288,10 +305,10 @@ mod refusals {
     }
 
     pub fn judge(file: &[u8], cells: usize) -> Judgement {
-        let model = judge_model(file, &[]);
-        match model {
-            Rated::Refused(k) => Judgement::Refused(k),
-            Rated::Rate(rate) => judge_run(file, rate, reader::time(file), 1, cells),
+        let alone = judge_file(file);
+        match alone {
+            Judgement::Refused(k) => Judgement::Refused(k),
+            Judgement::Accepted => judge_room(file, 1, cells),
         }
     }
 
@@ -312,8 +329,11 @@ mod refusals {
         if falls(times) {
             return Judgement::Refused(15);
         }
-        let run = judge_run(file, rate, times[count - 1], count, cells);
-        if let Judgement::Refused(k) = run {
+        if too_many_jumps(rate, times[count - 1]) {
+            return Judgement::Refused(12);
+        }
+        let room = judge_room(file, count, cells);
+        if let Judgement::Refused(k) = room {
             return Judgement::Refused(k);
         }
         if levels < count {
@@ -379,46 +399,58 @@ mod poisson {
     }
 
     fn step_right(w: u64, x: u64, n: u64) -> u64 {
-        muldiv::scaled(w, x, (n + 1) * MILLION)
+        let next = muldiv::scaled(w, x, (n + 1) * MILLION);
+        next.quotient
     }
 
     fn step_left(w: u64, x: u64, n: u64) -> u64 {
-        muldiv::scaled(w, n * MILLION, x)
+        let before = muldiv::scaled(w, n * MILLION, x);
+        before.quotient
+    }
+
+    fn tail_bound(w: u64, x: u64, n: u64) -> u64 {
+        let m = mode_of(x);
+        let past = muldiv::scaled(w + n - m, x, (n + 1) * MILLION - x);
+        1 + past.quotient
+    }
+
+    fn allowance(sum: u64, tolerance: u64) -> u64 {
+        let allowed = muldiv::scaled(sum, tolerance, BILLION);
+        allowed.quotient
     }
 
     fn passes(w: u64, sum: u64, x: u64, n: u64, tolerance: u64) -> bool {
-        let m = mode_of(x);
-        let reached = n * MILLION;
-        if reached < x {
+        if n * MILLION < x {
             return false;
         }
-        let t = 1 + muldiv::scaled(w + n - m, x, reached + MILLION - x);
-        t <= muldiv::scaled(sum, tolerance, BILLION)
+        let t = tail_bound(w, x, n);
+        t <= allowance(sum, tolerance)
     }
 }
 
 mod vectors {
-    use super::definitions::{Sizes, ONE};
+    use super::definitions::{Division, Sizes, ONE};
+    use super::muldiv;
 
     fn wide(x: u32) -> u64 {
         x as u64
     }
 
-    fn row_mean(sizes: Sizes, chain: &[u32], v: &[u64; 64], i: usize) -> u64 {
+    pub fn row_mean(sizes: Sizes, chain: &[u32], v: &[u64; 64], i: usize) -> Division {
         let states = sizes.states;
         let mut total = 0;
         for j in 0..states {
             total += wide(chain[i * states + j]) * v[j];
         }
-        total / sizes.rate
+        muldiv::divide(total, sizes.rate)
     }
 
-    fn reward_share(reward: u64, x: u64, largest: u64) -> u64 {
-        reward * x / largest
+    pub fn reward_share(reward: u64, x: u64, largest: u64) -> Division {
+        muldiv::divide(reward * x, largest)
     }
 
-    fn mix(n: u64, r: u64, v: u64, w: u64) -> u64 {
-        (n * v + r * w) / (n + r)
+    pub fn mix(n: u64, r: u64, v: u64, w: u64) -> Division {
+        muldiv::divide(n * v + r * w, n + r)
     }
 
     pub fn step(
@@ -435,7 +467,8 @@ mod vectors {
         for i in 0..states {
             let v = row_mean(sizes, chain, &before, i);
             let w = reward_share(rewards[i], same[i], sizes.largest);
-            next[i] = mix(n, r, v, w);
+            let u = mix(n, r, v.quotient, w.quotient);
+            next[i] = u.quotient;
         }
         next
     }
@@ -452,7 +485,8 @@ mod vectors {
         let states = sizes.states;
         let mut next = [0u64; 64];
         for i in 0..states {
-            next[i] = reward_share(rewards[i], same[i], sizes.largest);
+            let w = reward_share(rewards[i], same[i], sizes.largest);
+            next[i] = w.quotient;
         }
         next
     }
@@ -486,13 +520,18 @@ mod means {
         }
     }
 
+    fn term(w: u64, u: u64) -> u64 {
+        let ticks = muldiv::over_trillion(w, u);
+        ticks.quotient
+    }
+
     fn add_terms(sizes: Sizes, w: u64, table: &[[u64; 64]; 9], cells: &mut [u64]) {
         let highest = sizes.highest;
         let count = sizes.states * highest;
         let mut i = 0;
         let mut r = 1;
         for k in 0..count {
-            cells[k] += muldiv::over_trillion(w, table[r][i]);
+            cells[k] += term(w, table[r][i]);
             if r == highest {
                 r = 1;
                 i += 1;
@@ -555,8 +594,12 @@ mod means {
     }
 
     fn last_quotient(sum: u64, total: u64) -> u64 {
-        let half_ticks = muldiv::scaled(sum, 2 * ONE, total);
-        (half_ticks + 1) / 2
+        let down = muldiv::scaled(sum, ONE, total);
+        if 2 * down.remainder >= total {
+            down.quotient + 1
+        } else {
+            down.quotient
+        }
     }
 
     fn divide_sums(total: u64, count: usize, cells: &mut [u64]) {

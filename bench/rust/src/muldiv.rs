@@ -1,59 +1,70 @@
 // crates/muldiv in Rust: multiply, then divide, by a loop over the bits of b; where the divisor is 10^12, by parts of a
-// million each.
+// million each. Quotient and remainder come back.
 //
 // `how_often` and `rest` choose by `select_unpredictable` (rustc 1.88 or newer) where the Rattle source has `if`: Rattle's
 // compiler makes no branch of that, and rustc is kept from making one, since nobody can guess the bits.
 
+use super::definitions::Division;
 use std::hint::select_unpredictable;
 
 const LIMIT: u64 = 1 << 62;
 const LARGEST: u64 = 0xffff_ffff_ffff_ffff;
 const MILLION: u64 = 1_000_000;
 
-pub enum Quotient {
-    Of(u64),
+pub enum Divided {
+    Into(Division),
     Nothing,
 }
 
-pub fn mul_div(a: u64, b: u64, c: u64) -> Quotient {
+pub fn mul_div(a: u64, b: u64, c: u64) -> Divided {
     if c == 0 {
-        return Quotient::Nothing;
+        return Divided::Nothing;
     }
     if a >= LIMIT || b >= LIMIT || c >= LIMIT {
-        return Quotient::Nothing;
+        return Divided::Nothing;
     }
-    let low = quotient_by_bits(a % c, b, c);
+    let low = divide_by_bits(a % c, b, c);
     total(a / c, b, low)
 }
 
-pub fn scaled(a: u64, b: u64, c: u64) -> u64 {
+pub fn scaled(a: u64, b: u64, c: u64) -> Division {
     match mul_div(a, b, c) {
-        Quotient::Of(q) => q,
-        Quotient::Nothing => 0,
+        Divided::Into(d) => d,
+        Divided::Nothing => Division { quotient: 0, remainder: 0 },
     }
 }
 
-pub fn over_trillion(a: u64, b: u64) -> u64 {
+pub fn divide(n: u64, c: u64) -> Division {
+    Division { quotient: n / c, remainder: n % c }
+}
+
+pub fn over_trillion(a: u64, b: u64) -> Division {
     let a1 = a / MILLION;
     let a0 = a % MILLION;
     let b1 = b / MILLION;
     let b0 = b % MILLION;
-    let carry = a0 * b0 / MILLION;
-    let middle = a1 * b0 + a0 * b1 + carry;
-    a1 * b1 + middle / MILLION
+    let low = a0 * b0;
+    let middle = a1 * b0 + a0 * b1 + low / MILLION;
+    Division {
+        quotient: a1 * b1 + middle / MILLION,
+        remainder: middle % MILLION * MILLION + low % MILLION,
+    }
 }
 
-fn total(high: u64, b: u64, low: u64) -> Quotient {
+fn total(high: u64, b: u64, low: Division) -> Divided {
     if high == 0 {
-        return Quotient::Of(low);
+        return Divided::Into(low);
     }
-    if b > (LARGEST - low) / high {
-        return Quotient::Nothing;
+    if b > (LARGEST - low.quotient) / high {
+        return Divided::Nothing;
     }
-    Quotient::Of(high * b + low)
+    Divided::Into(Division {
+        quotient: high * b + low.quotient,
+        remainder: low.remainder,
+    })
 }
 
-fn quotient_by_bits(a: u64, b: u64, c: u64) -> u64 {
+fn divide_by_bits(a: u64, b: u64, c: u64) -> Division {
     let mut quotient: u64 = 0;
     let mut remainder: u64 = 0;
     let mut bits_left = bit_count(b);
@@ -63,7 +74,7 @@ fn quotient_by_bits(a: u64, b: u64, c: u64) -> u64 {
         quotient = 2 * quotient + how_often(sum, c);
         remainder = rest(sum, c);
     }
-    quotient
+    Division { quotient, remainder }
 }
 
 fn bit_count(b: u64) -> u32 {

@@ -3,10 +3,20 @@
 // `over_trillion` too: muldiv.rs's split into millions was tried here, and is somewhat slower on the heaviest file than the
 // one division instruction that this comes to.
 
-pub fn scaled(a: u64, b: u64, c: u64) -> u64 {
-    (u128::from(a) * u128::from(b) / u128::from(c)) as u64
+use super::definitions::{Division, ONE};
+
+pub fn scaled(a: u64, b: u64, c: u64) -> Division {
+    let product = u128::from(a) * u128::from(b);
+    Division {
+        quotient: (product / u128::from(c)) as u64,
+        remainder: (product % u128::from(c)) as u64,
+    }
 }
 
-pub fn over_trillion(a: u64, b: u64) -> u64 {
-    (u128::from(a) * u128::from(b) / 1_000_000_000_000) as u64
+pub fn divide(n: u64, c: u64) -> Division {
+    Division { quotient: n / c, remainder: n % c }
+}
+
+pub fn over_trillion(a: u64, b: u64) -> Division {
+    scaled(a, b, ONE)
 }
