@@ -1,5 +1,5 @@
-//! Times four calculations side by side, in one process, and lists of times beside single calls. `bench/run` builds and
-//! runs this.
+//! Times four calculations side by side, in one process, lists of times beside single calls, and the call for remainders
+//! beside one for the moments. `bench/run` builds and runs this.
 //!
 //!     library   the proved call, from libkuldrepso.a
 //!     same      the same algorithm in Rust, with the same helper
@@ -9,12 +9,15 @@
 //!     bench TURNS all FILE...                prints the times and the ratios
 //!     bench TURNS LINE FILE...               runs that line alone and prints nothing, for a profiler
 //!     bench TURNS series [FILE TIMES]...     times a list of 8 times, as 1,2,3,4,5,6,7,8, beside single calls
+//!     bench TURNS remainders FILE...         times the call for remainders
 
 #[path = "../../../tests/rust/src/independent.rs"]
 #[allow(dead_code)] // its series is not timed
 mod independent;
 #[path = "../../../tests/rust/src/library.rs"]
+#[allow(dead_code)] // no call here answers NONE
 mod library;
+mod remainders;
 mod series;
 mod single;
 mod timing;
@@ -40,6 +43,7 @@ fn main() {
     let turns: usize = words[0].parse().expect("a number of turns");
     match words[1].as_str() {
         "series" => series::measure(turns, &words[2..]),
+        "remainders" => remainders::measure(turns, &words[2..]),
         line => single::measure(turns, line, &words[2..]),
     }
 }
