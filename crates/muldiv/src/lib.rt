@@ -80,7 +80,8 @@ pub fn over_trillion(a: u64, b: u64) -> Division
     let b1 = b / MILLION;
     let b0 = b % MILLION;
     let low = a0 * b0;
-    let middle = a1 * b0 + a0 * b1 + low / MILLION;
+    let carry = low / MILLION;
+    let middle = a1 * b0 + a0 * b1 + carry;
     Division {
         quotient: a1 * b1 + middle / MILLION,
         remainder: middle % MILLION * MILLION + low % MILLION,
