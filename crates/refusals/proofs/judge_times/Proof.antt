@@ -6,9 +6,9 @@ use mathlib.Core.List.{List, _++_}
 use native.Mathlib.Omega.{arith}
 use lib.ListN.{length, drop}
 use borrow.Author.Needs.{needs}
-use Rattle.definitions.specs.Rules.{Answer, refused, Rows, outside, listing, lastTime, jumps, room, blockSize, judgedBy, verdict}
+use Rattle.definitions.specs.Rules.{Answer, refused, Rows, outside, listing, lastTime, tooManyJumps, jumps, room, blockSize, judgedBy, verdict}
 use Rattle.laws.specs.RuleLaws.{row-stops, row-passes, andThen, in-parts}
-use Rattle.laws.specs.RowLaws.{in-range, same-room, too-few, enough}
+use Rattle.laws.specs.RowLaws.{in-range, same-test, same-room, too-few, enough}
 use Rattle.refusals.proofs.judge_times.Statement.{statement}
 use Rattle.refusals.proofs.judge_times.Tie as tie
 
@@ -55,9 +55,17 @@ past-15 : (c : tie.Else2) → Left (start15 c) 2
 unfolding listing
 past-15 c = past-14 (c .before .before) ∙ row-passes 15 _ _ _ (sym (c .before .falls .ensures) ∙ c .if2 .left)
 
+-- row 12 is tested on the last time
+tested-12 : (c : tie.After-too-many-jumps) →
+    let start = start15 (c .before .before) in
+    c .too-many-jumps .result ≡ tooManyJumps (start .args .rate) (lastTime (times start))
+tested-12 c =
+    let start = start15 (c .before .before) in
+    c .too-many-jumps .ensures ∙ same-test (start .args .rate) (lastTime (times start)) (omega arith)
+
 past-12 : (c : tie.Else3) → Left (start12 c) 3
 unfolding listing jumps
-past-12 c = past-15 (c .before .before .before) ∙ row-passes 12 _ _ _ (sym (c .before .too-many-jumps .ensures) ∙ c .if3 .left)
+past-12 c = past-15 (c .before .before .before) ∙ row-passes 12 _ _ _ (sym (tested-12 (c .before)) ∙ c .if3 .left)
 
 count : (c : tie.Else1) → (1 ≤ length (times (start14 c))) × (length (times (start14 c)) ≤ 8)
 count c = in-range (length (times (start14 c))) 8 (counted c)
@@ -85,7 +93,7 @@ returns-2 c = sym (past-14 (c .before .before) ∙ row-stops 15 _ _ _ (sym (c .b
 
 returns-3 : tie.Need-returns-3
 unfolding listing jumps
-returns-3 c = sym (past-15 (c .before .before .before) ∙ row-stops 12 _ _ _ (sym (c .before .too-many-jumps .ensures) ∙ c .if3 .taken))
+returns-3 c = sym (past-15 (c .before .before .before) ∙ row-stops 12 _ _ _ (sym (tested-12 (c .before)) ∙ c .if3 .taken))
 
 judge-room-requires : tie.Need-judge-room-requires
 judge-room-requires c κs =
