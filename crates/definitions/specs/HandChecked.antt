@@ -190,21 +190,21 @@ pub own-time-unused : (seriesJudgement (set (set fileB 11 1) 12 1) (1 ∷ []) 1 
 unfolding sum largest anyAbove big jumpRate rowSum uniformRate framing quantities fallsUpTo listing jumps room rows seriesRows firstHeld judgement seriesJudgement
 own-time-unused = (refl, refl)
 
--- B with the rewards 3 and 2 and the second rate 999,999: E is 1,000,000, F is 3, and the level is 3
+-- B with the rewards 9 and 4 and the second rate 999,999: E is 1,000,000, F is 9, and the level is 3
 abbrev pub unevenB : List ℕ
-unevenB = set (set (set fileB 16 3) 20 2) 28 0x3F
+unevenB = set (set (set fileB 16 9) 20 4) 28 0x3F
 
 abbrev pub unevenChain : Chain
 unevenChain = chainOf (modelOf unevenB)
 
 -- at state 2, counted from 1, each division of U(3,2) leaves something, and 3 is the level:
--- 999,999 × 796296111110 + 1 × 611111111109 is 796295925924 × 1,000,000 and 999,999; 2 × 833333166665 is 555555444443 × 3 and 1;
--- 3 × 796295925924 + 2 × 555555444443 is 699999733331 × 5 and 3
-pub uneven-rests : remaindersOf unevenB 2 3 2 ≡ accepted (given (record { mean = 999999; share = 1; mix = 3 }))
+-- 999,999 × 681069691357 + 1 × 413580246912 is 681069423867 × 1,000,000 and 555,555; 4 × 722221944443 is 320987530863 × 9 and 5;
+-- 3 × 681069423867 + 2 × 320987530863 is 537036666665 × 5 and 2
+pub uneven-rests : remaindersOf unevenB 2 3 2 ≡ accepted (given (record { mean = 555555; share = 5; mix = 2 }))
 unfolding sum largest anyAbove big jumpRate rowSum uniformRate c maxReward jumpMillionths framing quantities jumps firstHeld rowMean rewardShare mix nextEntry firstVectors nextVectors U mode rightward leftward weight weightSum tailBound allowance passes? firstFrom level modelLevel restsAt restsOf remaindersOf
 uneven-rests = refl
 
-pub uneven-quotients : (meanOf unevenChain 3 2 1 ≡ 796295925924) × (shareOf unevenChain 3 2 1 ≡ 555555444443) × (U unevenChain 3 2 1 ≡ 699999733331)
+pub uneven-quotients : (meanOf unevenChain 3 2 1 ≡ 681069423867) × (shareOf unevenChain 3 2 1 ≡ 320987530863) × (U unevenChain 3 2 1 ≡ 537036666665)
 unfolding sum largest big jumpRate rowSum uniformRate c maxReward rowMean rewardShare mix nextEntry firstVectors nextVectors U
 uneven-quotients = (refl, refl, refl)
 
