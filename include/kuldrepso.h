@@ -1,7 +1,8 @@
 /* Moments of the accumulated reward of a repairable system, and their truncation level: document 01's
- * calculation, its last division rounded to the nearest tick (document 02, S-1), at one time or at several (S-3), and
- * what its divisions leave over (S-4), for C. `./build kuldrepso` makes the library, libkuldrepso.a (x86-64), and prints
- * its path; it needs nothing but memcpy and memset. The contracts of its calls are proved: crates/kuldrepso/src/lib.rt. */
+ * calculation, its last division rounded to the nearest tick (document 02, S-1), at one time or at several (S-3), what
+ * its divisions leave over (S-4), and files with a starting distribution (S-5), for C. `./build kuldrepso` makes the
+ * library, libkuldrepso.a (x86-64), and prints its path; it needs nothing but memcpy and memset. The contracts of its
+ * calls are proved: crates/kuldrepso/src/lib.rt. */
 #ifndef KULDREPSO_H
 #define KULDREPSO_H
 
@@ -15,37 +16,48 @@ extern "C" {
 /* The version of this header, and of the library beside it. MINOR rises where calls or macros are added and a program
  * that was written before stays right. MAJOR rises, and MINOR starts again at 0, where such a program has to be looked
  * through: a call takes other parameters or answers something else, or a macro has another value. */
-#define KULDREPSO_VERSION_MAJOR 2
-#define KULDREPSO_VERSION_MINOR 2
+#define KULDREPSO_VERSION_MAJOR 3
+#define KULDREPSO_VERSION_MINOR 0
 
 /* An answer below this is an acceptance; any other is this and the number of a refusal. */
 #define KULDREPSO_REFUSED UINT64_C(1000000)
 
-/* Cells that are enough for every file at one time: 64 states, 8 moments each. A list of times takes as many for each. */
-#define KULDREPSO_MOST_CELLS 512
+/* Cells that are enough for every file at one time: 64 states and the start, 8 figures each. A list of times takes as
+ * many for each. */
+#define KULDREPSO_MOST_CELLS 520
 
 /* Times that a list may have: 1 to this many. */
 #define KULDREPSO_MOST_TIMES 8
 
-/* Bytes of the longest file that can be accepted: 64 states. A longer one is refused. */
-#define KULDREPSO_MOST_BYTES 16397
+/* Bytes of the longest file that can be accepted: version 2 with 64 states. A longer one is refused. */
+#define KULDREPSO_MOST_BYTES 16653
 
 /* Ticks in one: a moment is its cell divided by this. */
 #define KULDREPSO_ONE UINT64_C(1000000000000)
 
 /* Judges the model file in file[0] .. file[file_length - 1] and calculates its moments.
  *
+ * The file is of version 1 or 2, its byte 2. One of version 2 has M starting weights, 4 bytes each, in millionths, before its
+ * reward rates (document 02, S-5). M and R are bytes 3 and 4 of the file. A block is B cells:
+ *   M * R                   in version 1: block cell (i - 1) * R + (r - 1) is moment r of state i, i from 1 to M and r from
+ *                           1 to R;
+ *   (M + 1) * R             in version 2: the same, and after them block cell M * R + (r - 1) is the start figure for r, the
+ *                           sum over the states of weight times moment r, over 1,000,000, down.
+ * All are in ticks.
+ *
  * Answers
- *   N                       the level, from 1 to 563, where no row of document 01's table "What stops a file" holds.
- *                           Then cells[(i - 1) * R + (r - 1)] holds moment r of state i in ticks, i from 1 to M and
- *                           r from 1 to R, where M and R are bytes 3 and 4 of the file. Every cell from M * R on is
- *                           as it was.
- *   KULDREPSO_REFUSED + k   where row k, from 1 to 13, is the first that holds. Every cell is as it was.
+ *   N                       the level, from 1 to 563, where no row of the table below holds. Then cells[0] .. cells[B - 1]
+ *                           hold the file's block. Every cell from B on is as it was.
+ *   KULDREPSO_REFUSED + k   where row k is the first that holds. Every cell is as it was.
+ *
+ * The table, in its order: rows 1 to 8 of document 01's "What stops a file", where 3 holds for any version but 1 and 2, and 6
+ * reads the length of the file's version; 16, the weights of a version 2 file do not sum to 1,000,000; rows 9 to 12; 13,
+ * cell_count is below B.
  *
  * Each slice is a pointer and a count of its elements, not of bytes. Neither pointer may be null, also where its
  * count is 0 (any suitably aligned address does then); the two must not overlap; file_length and 8 * cell_count are
  * at most PTRDIFF_MAX. That is all a caller owes: any bytes and any count of cells get an answer. Nothing is kept,
- * nothing is allocated, and calls on different cells may run at once. Until an accepting call returns, its M * R
+ * nothing is allocated, and calls on different cells may run at once. Until an accepting call returns, its B
  * cells may hold sums that are no moments yet. It takes less than 128 KB of stack. */
 uint64_t kuldrepso_calculate(const uint8_t *file, size_t file_length, uint64_t *cells, size_t cell_count);
 
@@ -54,15 +66,14 @@ uint64_t kuldrepso_calculate(const uint8_t *file, size_t file_length, uint64_t *
  *
  * Answers
  *   time_count              where no row of the table below holds. For time k, counted from 0: levels[k] holds its level,
- *                           and the block cells[k * M * R] .. cells[(k + 1) * M * R - 1] its moments, in the order
- *                           of kuldrepso_calculate. Both are what kuldrepso_calculate gives for the file with times[k]
- *                           in the place of its time, bytes 9 to 12. Every level from time_count on and every cell from
- *                           time_count * M * R on is as it was.
+ *                           and cells[k * B] .. cells[(k + 1) * B - 1] its block, that of kuldrepso_calculate. Both are
+ *                           what kuldrepso_calculate gives for the file with times[k] in the place of its time, bytes 9
+ *                           to 12. Every level from time_count on and every cell from time_count * B on is as it was.
  *   KULDREPSO_REFUSED + k   where row k is the first that holds. Every level and every cell is as it was.
  *
- * The table, in its order: rows 1 to 11 of document 01, where 8 holds also for a list whose first time is 0; 14, the list
- * has no time or more than KULDREPSO_MOST_TIMES; 15, a time is not above the one before it; 12, judged on the last time;
- * 13, level_count is below time_count, or cell_count below time_count * M * R.
+ * The table, in its order: the rows of kuldrepso_calculate's table up to 11, where 8 holds also for a list whose first time
+ * is 0; 14, the list has no time or more than KULDREPSO_MOST_TIMES; 15, a time is not above the one before it; 12, judged
+ * on the last time; 13, level_count is below time_count, or cell_count below time_count * B.
  *
  * A caller owes what is owed to kuldrepso_calculate, here for four slices: no pointer may be null, also where its count
  * is 0; neither levels nor cells may overlap any other slice; no slice is longer than PTRDIFF_MAX bytes. Until an accepting
@@ -78,21 +89,51 @@ uint64_t kuldrepso_series(const uint8_t *file, size_t file_length, const uint32_
  * from 1; i is the state.
  *
  * Answers
- *   KULDREPSO_GIVEN         where no row from 1 to 12 of document 01's table holds, and state is from 1 to M, n from 1 to N,
- *                           the file's level, and r from 1 to R. Then
+ *   KULDREPSO_GIVEN         where no row of kuldrepso_calculate's table up to 12 holds, and state is from 1 to M, n from 1
+ *                           to N, the file's level, and r from 1 to R. Then
  *                             *mean   holds the remainder of V, that of the sum over j of c(i,j) * U(n-1,r) at j by E;
  *                             *share  holds the remainder of W, that of f(i) * U(n,r-1) at i by F;
  *                             *mix    holds the remainder of U, that of n * V + r * W by n + r.
  *                           Each is below its divisor.
  *   KULDREPSO_NONE          where no such row holds, and state, n or r is outside. The three numbers are as they were.
- *   KULDREPSO_REFUSED + k   where row k, from 1 to 12, is the first that holds, whatever state, n and r are. The three
- *                           numbers are as they were.
+ *   KULDREPSO_REFUSED + k   where row k is the first such row that holds, whatever state, n and r are. The three numbers
+ *                           are as they were.
  *
  * Any state, n and r get an answer, UINT64_MAX too. A call works out all vectors from n = 0 up to n. A caller owes what is
  * owed to kuldrepso_calculate, here for one slice and three numbers: no pointer may be null, and none of the numbers may
  * overlap another or the file. It takes less than 128 KB of stack. */
 uint64_t kuldrepso_remainders(const uint8_t *file, size_t file_length, uint64_t state, uint64_t n, uint64_t r,
                               uint64_t *mean, uint64_t *share, uint64_t *mix);
+
+/* Moves a version 1 file to version 2 with all weight, 1,000,000, on state 1 (document 02, S-5): the same M, R, tolerance,
+ * time, rewards and rates, and so the same level and moments.
+ *
+ * Answers
+ *   C                       the count of bytes of the moved file, file_length + 4 * M, where no row of the table below holds.
+ *                           Then out[0] .. out[C - 1] hold the moved file, which is accepted. Every byte from C on is as it
+ *                           was.
+ *   KULDREPSO_REFUSED + k   where row k is the first that holds. Every byte of out is as it was.
+ *
+ * The table, in its order: the rows of kuldrepso_calculate's table up to 12, where 3 holds for any version but 1; 13,
+ * out_length is below C.
+ *
+ * KULDREPSO_MOST_BYTES bytes are enough for every file. A caller owes what is owed to kuldrepso_calculate, here for two slices
+ * of bytes: no pointer may be null, also where its count is 0; the two must not overlap; neither is longer than PTRDIFF_MAX. */
+uint64_t kuldrepso_to_version_2(const uint8_t *file, size_t file_length, uint8_t *out, size_t out_length);
+
+/* Moves a version 2 file whose weight is all on state 1 back to version 1: the file without its weights.
+ *
+ * Answers
+ *   C                       the count of bytes of the moved file, file_length - 4 * M, where no row of the table below holds.
+ *                           Then out[0] .. out[C - 1] hold the moved file, which is accepted. Every byte from C on is as it
+ *                           was.
+ *   KULDREPSO_REFUSED + k   where row k is the first that holds. Every byte of out is as it was.
+ *
+ * The table, in its order: the rows of kuldrepso_calculate's table up to 12, where 3 holds for any version but 2; 17, a state
+ * other than 1 has weight; 13, out_length is below C.
+ *
+ * There and back, by either call first, returns the same bytes. A caller owes what is owed to kuldrepso_to_version_2. */
+uint64_t kuldrepso_to_version_1(const uint8_t *file, size_t file_length, uint8_t *out, size_t out_length);
 
 #ifdef __cplusplus
 }
