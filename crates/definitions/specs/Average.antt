@@ -84,3 +84,7 @@ averageOf X x L = quotient (total (suc L) (λ n. times (exactWeight X n) (x n)))
 -- the average up to level L, at state i and for r
 unfoldable pub average : (m : Model) → 0 < maxReward m → ℕ → ℕ → ℕ → Fraction
 average m h L r i = averageOf (jumpMillionths m) (λ n. exactU (chainOf m) (proper m h) n r i) L
+
+-- the averages weighted by the starting distribution: the sum over i of weight times average, over 1,000,000 (document 02, S-5)
+unfoldable pub startAverage : (m : Model) → 0 < maxReward m → ℕ → ℕ → Fraction
+startAverage m h L r = overWhole (total (m .states) (λ i. times (whole (m .start i)) (average m h L r i))) MILLION million-pos

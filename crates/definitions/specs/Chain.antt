@@ -5,14 +5,17 @@ use lib.ListN.{getD}
 use lib.Dec.{eqb, ltb}
 use Rattle.definitions.specs.declared.Sizes.{Sizes}
 use Rattle.definitions.specs.Sums.{sum, largest, firsts, over, pick}
-use Rattle.definitions.specs.File.{stateCount, highestMoment, toleranceField, timeField, rewardField, rateField}
+use Rattle.definitions.specs.File.{stateCount, highestMoment, toleranceField, timeField, distributions, weightField, rewardField, rateField}
 
--- M, R, ε in billionths, T in hours, f, and the transition rates between two different states
+-- M, R, ε in billionths, T in hours, how many starting distributions there are (one or none) and its weights in millionths, f, and the
+-- transition rates between two different states
 pub record Model : Type 0 where
   pub states : ℕ
   pub highest : ℕ
   pub tolerance : ℕ
   pub time : ℕ
+  pub distributions : ℕ
+  pub start : ℕ → ℕ
   pub reward : ℕ → ℕ
   pub transition : ℕ → ℕ → ℕ
 
@@ -24,6 +27,8 @@ modelOf s =
       highest = highestMoment s;
       tolerance = toleranceField s;
       time = timeField s;
+      distributions = distributions s;
+      start = weightField s;
       reward = rewardField s;
       transition = rateField s;
     }
@@ -36,6 +41,8 @@ atTime m T =
       highest = m .highest;
       tolerance = m .tolerance;
       time = T;
+      distributions = m .distributions;
+      start = m .start;
       reward = m .reward;
       transition = m .transition;
     }
@@ -98,6 +105,10 @@ arrays sizes c f =
       largestReward = sizes .largest;
     }
 
--- M, R, E and F of a model
+-- the cells of one block: one for each r of each state, and one for each r of the starting distribution
+abbrev pub blockOf : Model → ℕ
+blockOf m = (m .states + m .distributions) * m .highest
+
+-- M, R, the cells of a block, E and F of a model
 abbrev pub sizesOf : Model → Sizes
-sizesOf m = record { states = m .states; highest = m .highest; rate = uniformRate m; largest = maxReward m }
+sizesOf m = record { states = m .states; highest = m .highest; block = blockOf m; rate = uniformRate m; largest = maxReward m }

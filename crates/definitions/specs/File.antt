@@ -3,7 +3,7 @@ use Prim.Native.Nat.{ℕ, _+_, _*_, _-_}
 use mathlib.Core.List.{List}
 use lib.ListN.{getD}
 use lib.Seq.{sets}
-use lib.Dec.{ltb}
+use lib.Dec.{eqb, ltb}
 use Rattle.definitions.specs.Sums.{pick}
 use Rattle.definitions.specs.Bytes.{big, bytesOf}
 
@@ -11,7 +11,7 @@ use Rattle.definitions.specs.Bytes.{big, bytesOf}
 abbrev pub lengthField : List ℕ → ℕ
 lengthField s = big 2 s 0
 
--- byte 2: version
+-- byte 2: version, 1 or 2
 abbrev pub version : List ℕ → ℕ
 version s = getD s 2 0
 
@@ -35,17 +35,29 @@ timeField s = big 4 s 9
 unfoldable pub withTime : List ℕ → ℕ → List ℕ
 withTime s T = sets s 9 (bytesOf 4 T)
 
--- where the reward rates start
-abbrev pub rewardsAt : ℕ
-rewardsAt = 13
+-- how many starting distributions a file holds: one in version 2, none in version 1 (document 02, S-5)
+unfoldable pub distributions : List ℕ → ℕ
+distributions s = pick (eqb (version s) 2) 1 0
+
+-- where the starting weights start
+abbrev pub weightsAt : ℕ
+weightsAt = 13
+
+-- the starting weight of state i, in millionths (read only where the file holds a starting distribution)
+abbrev pub weightField : List ℕ → ℕ → ℕ
+weightField s i = big 4 s (weightsAt + 4 * i)
+
+-- where the reward rates start: after M weights for each distribution
+abbrev pub rewardsAt : List ℕ → ℕ
+rewardsAt s = weightsAt + 4 * (distributions s * stateCount s)
 
 -- f(i): reward rate of state i
 abbrev pub rewardField : List ℕ → ℕ → ℕ
-rewardField s i = big 4 s (rewardsAt + 4 * i)
+rewardField s i = big 4 s (rewardsAt s + 4 * i)
 
 -- where row i of the rates starts: after M rewards and i rows of M − 1 rates
 abbrev pub rowAt : List ℕ → ℕ → ℕ
-rowAt s i = rewardsAt + 4 * stateCount s + 4 * (stateCount s - 1) * i
+rowAt s i = rewardsAt s + 4 * stateCount s + 4 * (stateCount s - 1) * i
 
 -- the place of state j in row i, the diagonal left out: j before it, j − 1 after it
 abbrev pub place : ℕ → ℕ → ℕ

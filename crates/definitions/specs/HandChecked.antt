@@ -10,18 +10,18 @@ use lib.ListN.{length, set, replicate}
 use lib.Dec.{lit<}
 use Rattle.definitions.specs.Sums.{sum, largest, anyAbove, firsts, over, blocks, pick}
 use Rattle.definitions.specs.Bytes.{big, bytesOf}
-use Rattle.definitions.specs.File.{withTime}
+use Rattle.definitions.specs.File.{withTime, distributions}
 use Rattle.definitions.specs.Chain.{Model, modelOf, Chain, jumpRate, rowSum, uniformRate, c, maxReward, jumpMillionths, chainOf}
 use Rattle.definitions.specs.Rules.{accepted, refused, framing, quantities, fallsUpTo, listing, jumps, room, rows, seriesRows, firstHeld, judgement, seriesJudgement}
 use Rattle.definitions.specs.Vectors.{ONE, rowMean, rewardShare, mix, nextEntry, firstVectors, nextVectors, U}
 use Rattle.definitions.specs.Weights.{mode, rightward, leftward, weight, weightSum}
 use Rattle.definitions.specs.Level.{tailBound, allowance, passes?, firstFrom, level}
-use Rattle.definitions.specs.Moment.{term, weighted, nearest, lastQuotient, weightedMean, moment, cell, modelLevel, outcome, cellsAfter}
+use Rattle.definitions.specs.Moment.{term, weighted, nearest, lastQuotient, weightedMean, moment, figureOf, cell, modelLevel, outcome, cellsAfter}
 use Rattle.definitions.specs.Series.{levelAt, levelsAfter, blocksAfter}
 use Rattle.definitions.specs.Remainders.{meanOf, shareOf, restsAt, none, given, restsOf, remaindersOf, numberAfter}
 use Rattle.definitions.specs.Fraction.{Same, ratio, total, power}
 use Rattle.definitions.specs.Average.{exactMean, exactShare, exactMix, exactFirst, exactNext, exactU, factorial, exactWeight, averageOf, average}
-use Rattle.definitions.specs.Sheet.{digit, digits, places, decimal, figure, momentLine, momentLines, levelLine, sheetOf, sheet, printedSheet}
+use Rattle.definitions.specs.Sheet.{digit, digits, places, decimal, figure, label, figureLine, figureLines, levelLine, sheetOf, lentCells, sheet, printedSheet}
 
 -- file A
 abbrev pub fileA : List ℕ
@@ -56,7 +56,7 @@ pub data Entry : Type 0 where
 abbrev pub Holds : Entry → Type 0
 Holds (calculated s N moments) =
     (outcome s (length moments) ≡ accepted N) × (cellsAfter (accepted N) s (replicate (length moments) 0) ≡ moments)
-Holds (stopped s k) = judgement s 512 ≡ refused k
+Holds (stopped s k) = judgement s lentCells ≡ refused k
 Holds (numbers paper ours) = ours ≡ paper
 
 abbrev pub AllHold : List Entry → Type 0
@@ -79,22 +79,22 @@ starred =
     ∷ []
 
 pub hand-checked : AllHold starred
-unfolding sum largest anyAbove firsts over big jumpRate rowSum uniformRate c maxReward jumpMillionths framing quantities jumps room rows firstHeld judgement rowMean rewardShare mix nextEntry firstVectors nextVectors U mode rightward leftward weight weightSum tailBound allowance passes? firstFrom level term weighted nearest lastQuotient weightedMean moment cell modelLevel outcome cellsAfter
+unfolding sum largest anyAbove firsts over big distributions jumpRate rowSum uniformRate c maxReward jumpMillionths framing quantities jumps room rows firstHeld judgement rowMean rewardShare mix nextEntry firstVectors nextVectors U mode rightward leftward weight weightSum tailBound allowance passes? firstFrom level term weighted nearest lastQuotient weightedMean moment figureOf cell modelLevel outcome cellsAfter
 hand-checked = ((refl, refl), ((refl, refl), (refl, (refl, (refl, (refl, (refl, (refl, (refl, (refl, tt))))))))))
 
 -- B's F is above 0
 pub rewardedB : 0 < maxReward modelB
-unfolding largest maxReward big
+unfolding largest maxReward big distributions
 rewardedB = lit< tt
 
 -- the average of B for r = 1 and L = 3: 23/32 at state 1 and 9/32 at state 2
 pub averagesB : Same (average modelB rewardedB 3 1 0) (ratio 23 32 (lit< tt)) × Same (average modelB rewardedB 3 1 1) (ratio 9 32 (lit< tt))
-unfolding sum largest big jumpRate rowSum uniformRate c maxReward jumpMillionths total power exactMean exactShare exactMix exactFirst exactNext exactU factorial exactWeight averageOf average
+unfolding sum largest big distributions jumpRate rowSum uniformRate c maxReward jumpMillionths total power exactMean exactShare exactMix exactFirst exactNext exactU factorial exactWeight averageOf average
 averagesB = (record { cross = refl }, record { cross = refl })
 
 -- "Where hand solutions go wrong": the right values, U(1,1) at state 2 and U(1,2) at state 1, and that the wrong ones are not theirs
 pub right-values : (U chainB 1 1 1 ≡ 500000000000) × (U chainB 1 2 0 ≡ 333333333333)
-unfolding sum largest big jumpRate rowSum uniformRate c maxReward rowMean rewardShare mix nextEntry firstVectors nextVectors U
+unfolding sum largest big distributions jumpRate rowSum uniformRate c maxReward rowMean rewardShare mix nextEntry firstVectors nextVectors U
 right-values = (refl, refl)
 
 pub wrong-values : (U chainB 1 1 1 ≢ 250000000000) × (U chainB 1 2 0 ≢ 666666666666)
@@ -124,7 +124,7 @@ sheetB =
     ∷ []
 
 pub sheet-of-B : printedSheet fileB ≡ sheetB
-unfolding sum largest anyAbove firsts over big jumpRate rowSum uniformRate c maxReward jumpMillionths framing quantities jumps room rows firstHeld judgement rowMean rewardShare mix nextEntry firstVectors nextVectors U mode rightward leftward weight weightSum tailBound allowance passes? firstFrom level term weighted nearest lastQuotient weightedMean moment cell modelLevel outcome cellsAfter digit digits places decimal figure momentLine momentLines levelLine sheetOf sheet printedSheet
+unfolding sum largest anyAbove firsts over big distributions jumpRate rowSum uniformRate c maxReward jumpMillionths framing quantities jumps room rows firstHeld judgement rowMean rewardShare mix nextEntry firstVectors nextVectors U mode rightward leftward weight weightSum tailBound allowance passes? firstFrom level term weighted nearest lastQuotient weightedMean moment figureOf cell modelLevel outcome cellsAfter digit digits places decimal figure label figureLine figureLines levelLine sheetOf sheet printedSheet
 sheet-of-B = refl
 
 -- B with the times 1 and 2: a level and a block for each, the first those of B itself; what is lent past them stays
@@ -132,7 +132,7 @@ pub series-of-B :
     (seriesJudgement fileB (1 ∷ 2 ∷ []) 3 9 ≡ accepted tt)
     × (levelsAfter (accepted tt) fileB (1 ∷ 2 ∷ []) (replicate 3 7) ≡ 3 ∷ 4 ∷ 7 ∷ [])
     × (blocksAfter (accepted tt) fileB (1 ∷ 2 ∷ []) (replicate 9 7) ≡ 718750000000 ∷ 612500000000 ∷ 281250000000 ∷ 175000000000 ∷ 628571428571 ∷ 476190476190 ∷ 371428571428 ∷ 219047619047 ∷ 7 ∷ [])
-unfolding sum largest anyAbove firsts over blocks big jumpRate rowSum uniformRate c maxReward jumpMillionths framing quantities fallsUpTo listing jumps room seriesRows firstHeld seriesJudgement rowMean rewardShare mix nextEntry firstVectors nextVectors U mode rightward leftward weight weightSum tailBound allowance passes? firstFrom level term weighted nearest lastQuotient weightedMean moment cell modelLevel levelAt levelsAfter blocksAfter
+unfolding sum largest anyAbove firsts over blocks big distributions jumpRate rowSum uniformRate c maxReward jumpMillionths framing quantities fallsUpTo listing jumps room seriesRows firstHeld seriesJudgement rowMean rewardShare mix nextEntry firstVectors nextVectors U mode rightward leftward weight weightSum tailBound allowance passes? firstFrom level term weighted nearest lastQuotient weightedMean moment figureOf cell modelLevel levelAt levelsAfter blocksAfter
 series-of-B = (refl, refl, refl)
 
 -- B with the time 4,294,901,244, its bytes FF FE FD FC
@@ -172,12 +172,12 @@ stopped-lists =
     ∷ []
 
 pub lists-stopped : AllStopped stopped-lists
-unfolding sum largest anyAbove big jumpRate rowSum uniformRate framing quantities fallsUpTo listing jumps room seriesRows firstHeld seriesJudgement
+unfolding sum largest anyAbove big distributions jumpRate rowSum uniformRate framing quantities fallsUpTo listing jumps room seriesRows firstHeld seriesJudgement
 lists-stopped = (refl, (refl, (refl, (refl, (refl, (refl, (refl, (refl, (refl, (refl, (refl, (refl, (refl, (refl, tt))))))))))))))
 
 -- eight times up to the latest are accepted, with just as many levels and cells
 pub eight-times : seriesJudgement fileB (1 ∷ 2 ∷ 3 ∷ 4 ∷ 5 ∷ 6 ∷ 7 ∷ 256 ∷ []) 8 32 ≡ accepted tt
-unfolding sum largest anyAbove big jumpRate rowSum uniformRate framing quantities fallsUpTo listing jumps room seriesRows firstHeld seriesJudgement
+unfolding sum largest anyAbove big distributions jumpRate rowSum uniformRate framing quantities fallsUpTo listing jumps room seriesRows firstHeld seriesJudgement
 eight-times = refl
 
 -- a refused list changes no level and no cell
@@ -187,7 +187,7 @@ stopped-untouched = (refl, refl)
 
 -- the file's own time is not judged at 12: B with 257 hours is accepted with the time 1, which calculate refuses
 pub own-time-unused : (seriesJudgement (set (set fileB 11 1) 12 1) (1 ∷ []) 1 4 ≡ accepted tt) × (judgement (set (set fileB 11 1) 12 1) 4 ≡ refused 12)
-unfolding sum largest anyAbove big jumpRate rowSum uniformRate framing quantities fallsUpTo listing jumps room rows seriesRows firstHeld judgement seriesJudgement
+unfolding sum largest anyAbove big distributions jumpRate rowSum uniformRate framing quantities fallsUpTo listing jumps room rows seriesRows firstHeld judgement seriesJudgement
 own-time-unused = (refl, refl)
 
 -- B with the rewards 9 and 4 and the second rate 999,999: E is 1,000,000, F is 9, and the level is 3
@@ -201,11 +201,11 @@ unevenChain = chainOf (modelOf unevenB)
 -- 999,999 × 681069691357 + 1 × 413580246912 is 681069423867 × 1,000,000 and 555,555; 4 × 722221944443 is 320987530863 × 9 and 5;
 -- 3 × 681069423867 + 2 × 320987530863 is 537036666665 × 5 and 2
 pub uneven-rests : remaindersOf unevenB 2 3 2 ≡ accepted (given (record { mean = 555555; share = 5; mix = 2 }))
-unfolding sum largest anyAbove big jumpRate rowSum uniformRate c maxReward jumpMillionths framing quantities jumps firstHeld rowMean rewardShare mix nextEntry firstVectors nextVectors U mode rightward leftward weight weightSum tailBound allowance passes? firstFrom level modelLevel restsAt restsOf remaindersOf
+unfolding sum largest anyAbove big distributions jumpRate rowSum uniformRate c maxReward jumpMillionths framing quantities jumps firstHeld rowMean rewardShare mix nextEntry firstVectors nextVectors U mode rightward leftward weight weightSum tailBound allowance passes? firstFrom level modelLevel restsAt restsOf remaindersOf
 uneven-rests = refl
 
 pub uneven-quotients : (meanOf unevenChain 3 2 1 ≡ 681069423867) × (shareOf unevenChain 3 2 1 ≡ 320987530863) × (U unevenChain 3 2 1 ≡ 537036666665)
-unfolding sum largest big jumpRate rowSum uniformRate c maxReward rowMean rewardShare mix nextEntry firstVectors nextVectors U
+unfolding sum largest big distributions jumpRate rowSum uniformRate c maxReward rowMean rewardShare mix nextEntry firstVectors nextVectors U
 uneven-quotients = (refl, refl, refl)
 
 -- what is asked of a file: a state, n and r
@@ -234,12 +234,12 @@ asked-outside =
     ∷ []
 
 pub outside-none : NoneOf asked-outside
-unfolding sum largest anyAbove big jumpRate rowSum uniformRate c maxReward jumpMillionths framing quantities jumps firstHeld rowMean rewardShare mix nextEntry firstVectors nextVectors U mode rightward leftward weight weightSum tailBound allowance passes? firstFrom level modelLevel restsAt restsOf remaindersOf
+unfolding sum largest anyAbove big distributions jumpRate rowSum uniformRate c maxReward jumpMillionths framing quantities jumps firstHeld rowMean rewardShare mix nextEntry firstVectors nextVectors U mode rightward leftward weight weightSum tailBound allowance passes? firstFrom level modelLevel restsAt restsOf remaindersOf
 outside-none = (refl, (refl, (refl, (refl, (refl, (refl, (refl, (refl, (refl, tt)))))))))
 
 -- a file's refusal comes before all else
 pub refusals-first : (remaindersOf (set fileB 2 9) 0 0 0 ≡ refused 3) × (remaindersOf (set fileB 16 0) 3 4 3 ≡ refused 10) × (remaindersOf (set (set fileB 11 1) 12 1) 1 1 1 ≡ refused 12)
-unfolding sum largest anyAbove big jumpRate rowSum uniformRate framing quantities jumps firstHeld remaindersOf
+unfolding sum largest anyAbove big distributions jumpRate rowSum uniformRate framing quantities jumps firstHeld remaindersOf
 refusals-first = (refl, refl, refl)
 
 -- remainders that are given are written; else the numbers stay

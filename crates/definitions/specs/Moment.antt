@@ -1,13 +1,14 @@
--- "Moment": A, the last quotient (rounded as document 02, S-1, has it), the cells after a call, and its outcome.
+-- "Moment": A, the last quotient (rounded as document 02, S-1, has it), the start figure (S-5), the cells after a call, and its outcome.
 use Prim.Native.Nat.{ℕ, suc, _+_, _*_, _-_, _/_, _%_}
 use mathlib.Core.List.{List}
+use lib.Dec.{ltb}
 use Rattle.definitions.specs.declared.Outcome.{Outcome}
 use Rattle.definitions.specs.declared.Outcome.the-variants as ended
-use Rattle.definitions.specs.Sums.{sum, over}
+use Rattle.definitions.specs.Sums.{sum, over, pick}
 use Rattle.definitions.specs.Chain.{Model, modelOf, chainOf, jumpMillionths}
-use Rattle.definitions.specs.Rules.{Answer, accepted, refused, rows, firstHeld}
+use Rattle.definitions.specs.Rules.{Answer, accepted, refused, blockSize, rows, firstHeld}
 use Rattle.definitions.specs.Vectors.{ONE, U}
-use Rattle.definitions.specs.Weights.{weight, weightSum}
+use Rattle.definitions.specs.Weights.{MILLION, weight, weightSum}
 use Rattle.definitions.specs.Level.{level}
 
 -- one term of A: w × u over 10^12, down
@@ -34,13 +35,25 @@ weightedMean X u N = lastQuotient (weighted X u N) (weightSum X N)
 unfoldable pub moment : Model → ℕ → ℕ → ℕ → ℕ
 moment m N r i = weightedMean (jumpMillionths m) (λ n. U (chainOf m) n r i) N
 
--- (i − 1) × R + (r − 1): the cell of state i, counted from 0 here, and moment r
+-- the mean of p over M states with the starting weights a: the sum over i of a(i) × p(i), over 1,000,000, down
+unfoldable pub startMean : ℕ → (ℕ → ℕ) → (ℕ → ℕ) → ℕ
+startMean M a p = sum M (λ i. a i * p i) / MILLION
+
+-- the start figure for r, in ticks, at level N: that mean of the moments r
+unfoldable pub startFigure : Model → ℕ → ℕ → ℕ
+startFigure m N r = startMean (m .states) (m .start) (moment m N r)
+
+-- (i − 1) × R + (r − 1): the cell of state i, counted from 0 here, and moment r. The start's cells follow as those of one more state.
 unfoldable pub cellOf : Model → ℕ → ℕ → ℕ
 cellOf m i r = i * m .highest + (r - 1)
 
--- what stands in cell k: the moment of the state and the r whose cell it is
+-- row i of a block, for r: the moment of state i, or past the last state the start figure
+unfoldable pub figureOf : Model → ℕ → ℕ → ℕ → ℕ
+figureOf m N r i = pick (ltb i (m .states)) (moment m N r i) (startFigure m N r)
+
+-- what stands in cell k: the figure of the row and the r whose cell it is
 unfoldable pub cell : Model → ℕ → ℕ → ℕ
-cell m N k = moment m N (k % m .highest + 1) (k / m .highest)
+cell m N k = figureOf m N (k % m .highest + 1) (k / m .highest)
 
 -- the level of a model
 unfoldable pub modelLevel : Model → ℕ
@@ -57,5 +70,5 @@ answerOf (ended.Refused k) = refused k
 
 -- document 01's values for each answer: all answer cells after the call, from those before it
 unfoldable pub cellsAfter : Answer ℕ → List ℕ → List ℕ → List ℕ
-cellsAfter (accepted n) s cells = over (modelOf s .states * modelOf s .highest) (cell (modelOf s) n) cells
+cellsAfter (accepted n) s cells = over (blockSize s) (cell (modelOf s) n) cells
 cellsAfter (refused k) s cells = cells

@@ -9,7 +9,7 @@ use Rattle.definitions.specs.Vectors.{ONE}
 use Rattle.definitions.specs.Level.{BILLION}
 use Rattle.definitions.specs.Moment.{cellOf}
 use Rattle.definitions.specs.Fraction.{Fraction, AtMost, ratio, whole, plus}
-use Rattle.definitions.specs.Average.{average}
+use Rattle.definitions.specs.Average.{average, startAverage}
 
 pub one-pos : 0 < ONE
 one-pos = lit< tt
@@ -41,14 +41,27 @@ pub record Close (m : Model) (h : 0 < maxReward m) (N r i : ℕ) (p : Fraction) 
   pub at-level : Within p (average m h N r i) (roundingTicks N r)
   pub past-level : (L : ℕ) → N ≤ L → Within p (average m h L r i) (plus (toleranceOf m) (roundingTicks N r))
 
--- the printed moment of state i and moment r: the number in its cell, in ticks
+-- a start figure may lose one tick more
+abbrev pub startTicks : ℕ → ℕ → Fraction
+startTicks N r = ticks (3 * N + 2 * r + 4)
+
+-- what is promised of the start figure p for r, printed at level N
+pub record StartClose (m : Model) (h : 0 < maxReward m) (N r : ℕ) (p : Fraction) : Type 0 where
+  pub not-negative : AtMost (whole 0) p
+  pub at-most-one : AtMost p (whole 1)
+  pub at-level : Within p (startAverage m h N r) (startTicks N r)
+  pub past-level : (L : ℕ) → N ≤ L → Within p (startAverage m h L r) (plus (toleranceOf m) (startTicks N r))
+
+-- the printed moment of state i and moment r, or past the last state the start figure: the number in its cell, in ticks
 abbrev pub printed : List ℕ → List ℕ → ℕ → ℕ → Fraction
 printed s cells i r = ticks (getD cells (cellOf (modelOf s) i r) 0)
 
--- demand 3 of the file s, the level N and the cells: every state, every r from 1 to R, every L from N on
+-- demand 3 of the file s, the level N and the cells: every state, every r from 1 to R, every L from N on; and the same of the start
+-- figures, where there is a starting distribution
 pub record Promise (s : List ℕ) (N : ℕ) (cells : List ℕ) : Type 0 where
   pub rewarded : 0 < maxReward (modelOf s)
   pub close : (i r : ℕ) → i < modelOf s .states → 1 ≤ r → r ≤ modelOf s .highest → Close (modelOf s) rewarded N r i (printed s cells i r)
+  pub start-close : (r : ℕ) → 0 < modelOf s .distributions → 1 ≤ r → r ≤ modelOf s .highest → StartClose (modelOf s) rewarded N r (printed s cells (modelOf s .states) r)
 
 -- demand 3 of an answer: an acceptance with level N promises it, a refusal prints no moment
 abbrev pub Promised : Answer ℕ → List ℕ → List ℕ → Type 0

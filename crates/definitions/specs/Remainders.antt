@@ -52,9 +52,9 @@ anyOutside m state n r = outside state (m .states) || outside n (modelLevel m) |
 unfoldable pub restsOf : Model → ℕ → ℕ → ℕ → Maybe Rests
 restsOf m state n r = pick (anyOutside m state n r) none (given (restsAt (chainOf m) n r (state - 1)))
 
--- what a call answers of the file s: the first of rows 1 to 12 that holds, before all else
+-- what a call answers of the file s, of either version: the first of rows 1 to 12 and 16 that holds, before all else
 unfoldable pub remaindersOf : List ℕ → ℕ → ℕ → ℕ → Answer (Maybe Rests)
-remaindersOf s state n r = firstHeld (fileRows s) (restsOf (modelOf s) state n r)
+remaindersOf s state n r = firstHeld (fileRows 1 2 s) (restsOf (modelOf s) state n r)
 
 -- document 02's answer for each case of the enum
 abbrev pub remaindersAnswer : Remainders → Answer (Maybe Rests)

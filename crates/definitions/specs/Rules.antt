@@ -1,14 +1,14 @@
 -- "What stops a file": the table's rows in its order, in parts that the tables of several calls share, and what a table answers.
 use Prim.Native.Nat.{ℕ, zero, suc, _+_, _*_, _-_}
 use mathlib.Core.List.{List, [], _∷_, _++_}
-use mathlib.Core.Bool.{Bool, false, not, _||_}
+use mathlib.Core.Bool.{Bool, false, not, _&&_, _||_}
 use lib.ListN.{length, getD}
 use lib.Dec.{ltb, leb, eqb}
 use Rattle.definitions.specs.declared.Judgement.{Judgement}
 use Rattle.definitions.specs.declared.Judgement.the-variants as judged
-use Rattle.definitions.specs.Sums.{anyAbove, pick}
-use Rattle.definitions.specs.File.{lengthField, version, stateCount, highestMoment, timeField}
-use Rattle.definitions.specs.Chain.{Model, modelOf, rowSum, uniformRate}
+use Rattle.definitions.specs.Sums.{sum, anyAbove, pick}
+use Rattle.definitions.specs.File.{lengthField, version, stateCount, highestMoment, timeField, distributions}
+use Rattle.definitions.specs.Chain.{Model, modelOf, rowSum, uniformRate, blockOf}
 
 -- the answer of a call: accepted, with what the call then returns, or refused, with the number of a row. No refusal is an acceptance, whatever its number.
 pub data Answer (A : Type 0) : Type 0 where
@@ -23,15 +23,19 @@ Rows = List (ℕ × Bool)
 abbrev pub outside : ℕ → ℕ → Bool
 outside x most = eqb x 0 || ltb most x
 
--- rows 1 to 6, the framing: length, version, M and R
-unfoldable pub framing : List ℕ → Rows
-framing s =
+-- what the length field of a file holds: 4 × M × M + 11, and 4 × M for each starting distribution
+abbrev pub fittingLength : List ℕ → ℕ
+fittingLength s = 4 * stateCount s * stateCount s + 4 * (distributions s * stateCount s) + 11
+
+-- rows 1 to 6, the framing: length, version, M and R, for a call that admits the versions from low to high
+unfoldable pub framing : ℕ → ℕ → List ℕ → Rows
+framing low high s =
     (1, ltb (length s) 13)
     ∷ (2, not (eqb (lengthField s) (length s - 2)))
-    ∷ (3, not (eqb (version s) 1))
+    ∷ (3, ltb (version s) low || ltb high (version s))
     ∷ (4, outside (stateCount s) 64)
     ∷ (5, outside (highestMoment s) 8)
-    ∷ (6, not (eqb (lengthField s) (4 * stateCount s * stateCount s + 11)))
+    ∷ (6, not (eqb (lengthField s) (fittingLength s)))
     ∷ []
 
 -- whether a list of times starts with 0. One without a time does not.
@@ -39,11 +43,17 @@ abbrev pub startsAtZero : List ℕ → Bool
 startsAtZero [] = false
 startsAtZero (first ∷ later) = eqb first 0
 
--- rows 7 to 11, the quantities: tolerance, time, rewards and rates of a model, lent with a list of times (without one: an empty list)
+-- row 16: the model has a starting distribution, and its weights do not sum to 1,000,000
+abbrev pub misweighted : Model → Bool
+misweighted m = ltb 0 (m .distributions) && not (eqb (sum (m .states) (m .start)) 1000000)
+
+-- rows 7, 8, 16 and 9 to 11, the quantities: tolerance, time, starting weights, rewards and rates of a model, lent with a list of times
+-- (without one: an empty list)
 unfoldable pub quantities : Model → List ℕ → Rows
 quantities m times =
     (7, outside (m .tolerance) 100000000)
     ∷ (8, eqb (m .time) 0 || startsAtZero times)
+    ∷ (16, misweighted m)
     ∷ (9, anyAbove 1000000 (m .states) (m .reward))
     ∷ (10, not (anyAbove 0 (m .states) (m .reward)))
     ∷ (11, anyAbove 10000000 (m .states) (rowSum m))
@@ -76,23 +86,23 @@ jumps E T = (12, tooManyJumps E T) ∷ []
 unfoldable pub room : ℕ → ℕ → Rows
 room needed lent = (13, ltb lent needed) ∷ []
 
--- the cells of one block: one for each state and each moment
+-- the cells of one block of the file s
 abbrev pub blockSize : List ℕ → ℕ
-blockSize s = stateCount s * highestMoment s
+blockSize s = blockOf (modelOf s)
 
--- rows 1 to 12, the table of a call that takes the file s and needs no room for its answer
-abbrev pub fileRows : List ℕ → Rows
-fileRows s = framing s ++ quantities (modelOf s) [] ++ jumps (uniformRate (modelOf s)) (timeField s)
+-- rows 1 to 12, with 16: the table of a call that takes the file s, admits the versions from low to high, and needs no room for its answer
+abbrev pub fileRows : ℕ → ℕ → List ℕ → Rows
+fileRows low high s = framing low high s ++ quantities (modelOf s) [] ++ jumps (uniformRate (modelOf s)) (timeField s)
 
--- the table of a call that takes the file s, lent with a number of answer cells, and fills its moments
+-- the table of a call that takes the file s of either version, lent with a number of answer cells, and fills its moments
 unfoldable pub rows : List ℕ → ℕ → Rows
-rows s cells = fileRows s ++ room (blockSize s) cells
+rows s cells = fileRows 1 2 s ++ room (blockSize s) cells
 
--- the table of a call that takes the file s and a list of times, lent with a number of level cells and of block cells, and fills a level
+-- the table of a call that takes the file s of either version and a list of times, lent with a number of level cells and of block cells, and fills a level
 -- and a block of moments for each time (S-3). Row 13 stands for the blocks, and for the levels.
 unfoldable pub seriesRows : List ℕ → List ℕ → ℕ → ℕ → Rows
 seriesRows s times levels cells =
-    framing s
+    framing 1 2 s
     ++ quantities (modelOf s) times
     ++ listing times
     ++ jumps (uniformRate (modelOf s)) (lastTime times)
@@ -108,9 +118,9 @@ firstHeld (row ∷ later) a = pick (row .1) (refused (row .0)) (firstHeld later 
 abbrev pub judgedBy : Rows → Answer (Unit {0})
 judgedBy table = firstHeld table tt
 
--- what rows 1 to 12 say of the file s
-unfoldable pub fileJudgement : List ℕ → Answer (Unit {0})
-fileJudgement s = judgedBy (fileRows s)
+-- what they say of the file s
+unfoldable pub fileJudgement : ℕ → ℕ → List ℕ → Answer (Unit {0})
+fileJudgement low high s = judgedBy (fileRows low high s)
 
 -- what the table says of the file s lent with a number of answer cells
 unfoldable pub judgement : List ℕ → ℕ → Answer (Unit {0})

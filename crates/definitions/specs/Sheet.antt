@@ -1,11 +1,11 @@
 -- "The printed sheet": its bytes.
 use Prim.Native.Nat.{ℕ, zero, suc, _+_, _*_, _/_, _%_, _^_}
 use mathlib.Core.List.{List, [], _∷_, _++_}
-use lib.ListN.{length, take, drop, getD, replicate}
+use lib.ListN.{take, getD, replicate}
 use lib.Dec.{ltb}
 use Rattle.definitions.specs.Sums.{pick}
 use Rattle.definitions.specs.File.{stateCount, highestMoment}
-use Rattle.definitions.specs.Rules.{Answer, accepted, refused}
+use Rattle.definitions.specs.Rules.{Answer, accepted, refused, blockSize}
 use Rattle.definitions.specs.Moment.{outcome, cellsAfter}
 
 -- the byte of the decimal digit of x that counts 10^p
@@ -26,18 +26,22 @@ places x (suc k) = pick (ltb x (10 ^ suc k)) (places x k) (suc (suc k))
 unfoldable pub decimal : ℕ → List ℕ
 decimal x = digits x (places x 19)
 
--- a moment of x ticks: a digit, a point and twelve digits
+-- a figure of x ticks: a digit, a point and twelve digits
 unfoldable pub figure : ℕ → List ℕ
 figure x = digit x 12 ∷ 46 ∷ digits x 12
 
--- one line: state, r and the moment in cell k, parted by one space and ended by byte 0A
-unfoldable pub momentLine : ℕ → List ℕ → ℕ → List ℕ
-momentLine R cells k = decimal (k / R + 1) ++ 32 ∷ decimal (k % R + 1) ++ 32 ∷ figure (getD cells k 0) ++ 10 ∷ []
+-- how the lines of row i begin: with the number of the state, or past the M states with "start"
+unfoldable pub label : ℕ → ℕ → List ℕ
+label M i = pick (ltb i M) (decimal (i + 1)) (115 ∷ 116 ∷ 97 ∷ 114 ∷ 116 ∷ [])
+
+-- one line: state or "start", r and the figure in cell k, parted by one space and ended by byte 0A
+unfoldable pub figureLine : ℕ → ℕ → List ℕ → ℕ → List ℕ
+figureLine M R cells k = label M (k / R) ++ 32 ∷ decimal (k % R + 1) ++ 32 ∷ figure (getD cells k 0) ++ 10 ∷ []
 
 -- the first n lines
-unfoldable pub momentLines : ℕ → ℕ → List ℕ → List ℕ
-momentLines R zero cells = []
-momentLines R (suc n) cells = momentLines R n cells ++ momentLine R cells n
+unfoldable pub figureLines : ℕ → ℕ → ℕ → List ℕ → List ℕ
+figureLines M R zero cells = []
+figureLines M R (suc n) cells = figureLines M R n cells ++ figureLine M R cells n
 
 -- a word and a number in decimal, ended by byte 0A
 abbrev pub wordLine : List ℕ → ℕ → List ℕ
@@ -51,26 +55,22 @@ levelLine N = wordLine (108 ∷ 101 ∷ 118 ∷ 101 ∷ 108 ∷ 32 ∷ []) N
 unfoldable pub refusedLine : ℕ → List ℕ
 refusedLine k = wordLine (114 ∷ 101 ∷ 102 ∷ 117 ∷ 115 ∷ 101 ∷ 100 ∷ 32 ∷ []) k
 
--- the sheet of an answer, for M states, the highest moment R and the cells after the call
-unfoldable pub sheetOf : Answer ℕ → ℕ → ℕ → List ℕ → List ℕ
-sheetOf (accepted N) M R cells = levelLine N ++ momentLines R (M * R) cells
-sheetOf (refused k) M R cells = refusedLine k
+-- the sheet of an answer, for M states, the highest moment R, a block of so many cells, and the cells after the call
+unfoldable pub sheetOf : Answer ℕ → ℕ → ℕ → ℕ → List ℕ → List ℕ
+sheetOf (accepted N) M R block cells = levelLine N ++ figureLines M R block cells
+sheetOf (refused k) M R block cells = refusedLine k
 
 -- the program lends this many cells, and reads at most this many bytes
 abbrev pub lentCells : ℕ
-lentCells = 512
+lentCells = 520
 
 abbrev pub readLimit : ℕ
-readLimit = 16398
+readLimit = 16654
 
 -- what the calculator prints of the bytes that it read
 unfoldable pub sheet : List ℕ → List ℕ
-sheet s = sheetOf (outcome s lentCells) (stateCount s) (highestMoment s) (cellsAfter (outcome s lentCells) s (replicate lentCells 0))
+sheet s = sheetOf (outcome s lentCells) (stateCount s) (highestMoment s) (blockSize s) (cellsAfter (outcome s lentCells) s (replicate lentCells 0))
 
 -- what the program prints for the bytes on standard input
 unfoldable pub printedSheet : List ℕ → List ℕ
 printedSheet input = sheet (take readLimit input)
-
--- a buffer after a text was written at its start: the text, and the buffer's later bytes as they were
-unfoldable pub written : List ℕ → List ℕ → List ℕ
-written text buffer = text ++ drop (length text) buffer

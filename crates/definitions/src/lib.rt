@@ -1,5 +1,6 @@
 // The answers and the sizes that the calculator's functions share. The paper's answer for each case of an enum is defined in specs/:
-// of a Judgement in Rules.antt, of an Outcome in Moment.antt, of a Series in Series.antt, of Remainders in Remainders.antt. The chain that stands in arrays of given Sizes is defined in Chain.antt.
+// of a Judgement in Rules.antt, of an Outcome in Moment.antt, of a Series in Series.antt, of Remainders in Remainders.antt, of Written in
+// Written.antt. The chain that stands in arrays of given Sizes is defined in Chain.antt.
 
 // ONE: 10^12 ticks.
 pub const ONE: u64 = 1_000_000_000_000;
@@ -48,11 +49,18 @@ pub enum Remainders {
     Refused(u8),
 }
 
-// The numbers of a chain that stands in arrays: M, the number of states; R, the highest moment; E, the uniformization rate; F, the
-// largest reward rate.
+// What a call that writes a file answers: the count of bytes written, or the number of the refusal.
+pub enum Written {
+    Count(usize),
+    Refused(u8),
+}
+
+// The numbers of a chain that stands in arrays: M, the number of states; R, the highest moment; the cells of a block; E, the
+// uniformization rate; F, the largest reward rate.
 pub struct Sizes {
     pub states: usize,
     pub highest: usize,
+    pub block: usize,
     pub rate: u64,
     pub largest: u64,
 }

@@ -1,0 +1,54 @@
+-- A model file's fields as a record, read from its bytes, and the file that holds given fields.
+use Prim.Native.Nat.{ℕ, _+_, _*_, _-_}
+use mathlib.Core.List.{List, [], _∷_, _++_}
+use lib.ListN.{length}
+use Rattle.definitions.specs.Sums.{firsts}
+use Rattle.definitions.specs.Bytes.{big, bytesOf}
+use Rattle.definitions.specs.File.{version, stateCount, highestMoment, toleranceField, timeField, distributions, weightsAt, rewardsAt, rowAt}
+
+-- version, M, R, ε, T, and the starting weights, reward rates and transition rates in the order of the file
+pub record Fields : Type 0 where
+  pub version : ℕ
+  pub states : ℕ
+  pub highest : ℕ
+  pub tolerance : ℕ
+  pub time : ℕ
+  pub weights : List ℕ
+  pub rewards : List ℕ
+  pub rates : List ℕ
+
+-- so many numbers of 4 bytes each, from the place at on
+unfoldable pub numbersAt : List ℕ → ℕ → ℕ → List ℕ
+numbersAt s at n = firsts n (λ k. big 4 s (at + 4 * k))
+
+-- the bytes of a list of numbers, 4 each
+unfoldable pub wordsOf : List ℕ → List ℕ
+wordsOf [] = []
+wordsOf (x ∷ later) = bytesOf 4 x ++ wordsOf later
+
+-- the fields that a file's bytes state
+unfoldable pub fieldsOf : List ℕ → Fields
+fieldsOf s =
+    record {
+      version = version s;
+      states = stateCount s;
+      highest = highestMoment s;
+      tolerance = toleranceField s;
+      time = timeField s;
+      weights = numbersAt s weightsAt (distributions s * stateCount s);
+      rewards = numbersAt s (rewardsAt s) (stateCount s);
+      rates = numbersAt s (rowAt s 0) (stateCount s * (stateCount s - 1));
+    }
+
+-- weights, reward rates and transition rates, one after the other
+abbrev pub numbersOf : Fields → List ℕ
+numbersOf f = f .weights ++ (f .rewards ++ f .rates)
+
+-- the file that holds the fields: the length of all that follows its own two bytes, 11 bytes of header, and the numbers
+unfoldable pub fileOf : Fields → List ℕ
+fileOf f =
+    bytesOf 2 (4 * length (numbersOf f) + 11)
+    ++ ((f .version ∷ f .states ∷ f .highest ∷ [])
+    ++ (bytesOf 4 (f .tolerance)
+    ++ (bytesOf 4 (f .time)
+    ++ wordsOf (numbersOf f))))
