@@ -7,16 +7,16 @@ use mathlib.Core.Path.{_≡_, sym, _∙_, ap}
 use mathlib.Core.Bool.{false, not}
 use mathlib.Core.List.{List, [], _∷_, _++_, append-assoc}
 use lib.ListN.{length, getD}
-use lib.Dec.{leb, eqb}
+use lib.Dec.{leb, ltb, eqb}
 use borrow.Author.Tests.{ltb-true, ltb-false, leb-false, eqb-true, eqb-false, not-false}
-use Rattle.definitions.specs.Sums.{largest, anyAbove}
-use Rattle.definitions.specs.File.{lengthField, stateCount, highestMoment, toleranceField, timeField, rewardField}
+use Rattle.definitions.specs.Sums.{sum, largest, anyAbove}
+use Rattle.definitions.specs.File.{lengthField, version, stateCount, highestMoment, toleranceField, timeField, distributions, rewardField}
 use Rattle.definitions.specs.Chain.{Model, modelOf, atTime, rowSum, uniformRate, maxReward, jumpMillionths, chainOf}
-use Rattle.definitions.specs.Rules.{accepted, Rows, framing, startsAtZero, quantities, fallsUpTo, listing, lastTime, jumps, room, blockSize, fileRows, rows, seriesRows, firstHeld, judgedBy, fileJudgement, judgement, seriesJudgement}
+use Rattle.definitions.specs.Rules.{accepted, Rows, fittingLength, framing, misweighted, startsAtZero, quantities, fallsUpTo, listing, lastTime, jumps, room, blockSize, fileRows, rows, seriesRows, firstHeld, judgedBy, fileJudgement, judgement, seriesJudgement}
 use Rattle.definitions.specs.Series.{modelAt}
 use Rattle.laws.specs.SumLaws.{any-largest}
 use Rattle.laws.specs.RuleLaws.{andThen, in-parts, NoneHold, none-hold, accepted-value, none-in-parts}
-use Rattle.laws.specs.RowLaws.{neither, in-range, with-a-time}
+use Rattle.laws.specs.RowLaws.{neither, in-range, with-a-time, weights-by}
 use Rattle.laws.specs.ChainLaws.{rate-at, rate-pos, row-sums-to-rate, reward-le-largest}
 use Rattle.laws.specs.VectorLaws.{Stochastic}
 
@@ -31,11 +31,12 @@ none-above k n f h = ltb-false k (largest n f) (sym (any-largest k n f) ∙ h)
 some-above : (k n : ℕ) (f : ℕ → ℕ) → not (anyAbove k n f) ≡ false → k < largest n f
 some-above k n f h = ltb-true k (largest n f) (sym (any-largest k n f) ∙ not-false (anyAbove k n f) h)
 
--- what the reader asks of a file: M is 1 to 64, and M rewards and M rows of M − 1 rates stand after the header's 13 bytes
+-- what the reader asks of a file: M is 1 to 64, and after the header's 13 bytes stand M weights for each starting distribution, M rewards
+-- and M rows of M − 1 rates
 pub record Framed (s : List ℕ) : Type 0 where
   pub states-min : 1 ≤ stateCount s
   pub states-max : stateCount s ≤ 64
-  pub size : length s ≡ 4 * stateCount s * stateCount s + 13
+  pub size : length s ≡ 4 * stateCount s * stateCount s + 4 * (distributions s * stateCount s) + 13
 
 -- what the steps may assume of a model
 pub record WithinLimits (m : Model) : Type 0 where
@@ -44,6 +45,7 @@ pub record WithinLimits (m : Model) : Type 0 where
   pub highest-max : m .highest ≤ 8
   pub tolerance-pos : 1 ≤ m .tolerance
   pub tolerance-max : m .tolerance ≤ 100000000
+  pub weights-sum : 0 < m .distributions → sum (m .states) (m .start) ≡ 1000000
   pub rewards-max : maxReward m ≤ 1000000
   pub rewards-pos : 0 < maxReward m
   pub rate-min : 0 < uniformRate m
@@ -51,43 +53,56 @@ pub record WithinLimits (m : Model) : Type 0 where
   pub jumps-pos : 1 ≤ jumpMillionths m
   pub jumps-max : jumpMillionths m ≤ 256000000
 
--- what acceptance by rows 1 to 12 tells of a file
-pub record AcceptedModel (s : List ℕ) : Type 0 where
+-- what acceptance by rows 1 to 12 and 16 tells of a file, by a call that admits the versions from low to high
+pub record AcceptedModel (low high : ℕ) (s : List ℕ) : Type 0 where
   pub framed : Framed s
+  pub counted : lengthField s ≡ length s - 2
+  pub oldest : low ≤ version s
+  pub newest : version s ≤ high
   pub limits : WithinLimits (modelOf s)
 
--- what acceptance tells of a file lent with a number of cells
+-- what acceptance tells of a file of either version, lent with a number of cells
 pub record AcceptedFile (s : List ℕ) (cells : ℕ) : Type 0 where
-  pub framed : Framed s
-  pub limits : WithinLimits (modelOf s)
-  pub room : stateCount s * highestMoment s ≤ cells
+  pub model : AcceptedModel 1 2 s
+  pub room : blockSize s ≤ cells
 
 -- the rows 1 to 6, read the other way
-pub framed-by : (s : List ℕ) → NoneHold (framing s) → Framed s
-unfolding framing
-framed-by s row =
-    let row4 = row .1 .1 .1 in
-    let states = in-range (stateCount s) 64 (row4 .0) in
-    let header : 13 ≤ length s = ltb-false (length s) 13 (row .0) in
-    let after : lengthField s ≡ length s - 2 = held-equal (lengthField s) (length s - 2) (row .1 .0) in
-    let sized : lengthField s ≡ 4 * stateCount s * stateCount s + 11 = held-equal (lengthField s) (4 * stateCount s * stateCount s + 11) (row4 .1 .1 .0) in
-    record {
-      states-min = states .0;
-      states-max = states .1;
-      size = omega arith;
-    }
+module _ (low high : ℕ) (s : List ℕ) (row : NoneHold (framing low high s)) where
+  pub counted-by : lengthField s ≡ length s - 2
+  unfolding framing
+  counted-by = held-equal (lengthField s) (length s - 2) (row .1 .0)
 
-pub moments-by : (s : List ℕ) → NoneHold (framing s) → (1 ≤ highestMoment s) × (highestMoment s ≤ 8)
-unfolding framing
-moments-by s row = in-range (highestMoment s) 8 (row .1 .1 .1 .1 .0)
+  pub framed-by : Framed s
+  unfolding framing
+  framed-by =
+      let row4 = row .1 .1 .1 in
+      let states = in-range (stateCount s) 64 (row4 .0) in
+      let header : 13 ≤ length s = ltb-false (length s) 13 (row .0) in
+      let sized : lengthField s ≡ fittingLength s = held-equal (lengthField s) (fittingLength s) (row4 .1 .1 .0) in
+      record {
+        states-min = states .0;
+        states-max = states .1;
+        size = omega (arith, counted-by);
+      }
 
--- the rows 7 to 12, with a time T that is not 0 and not too late
-pub limits-by : (s times : List ℕ) (T : ℕ) → NoneHold (framing s) → NoneHold (quantities (modelOf s) times) → 1 ≤ T → uniformRate (modelOf s) * T ≤ 256000000 → WithinLimits (atTime (modelOf s) T)
+  pub version-by : (low ≤ version s) × (version s ≤ high)
+  unfolding framing
+  version-by =
+      let both = neither (ltb (version s) low) (ltb high (version s)) (row .1 .1 .0) in
+      (ltb-false (version s) low (both .0), ltb-false high (version s) (both .1))
+
+  pub moments-by : (1 ≤ highestMoment s) × (highestMoment s ≤ 8)
+  unfolding framing
+  moments-by = in-range (highestMoment s) 8 (row .1 .1 .1 .1 .0)
+
+-- the rows 7 to 12 and 16, with a time T that is not 0 and not too late
+pub limits-by : (low high : ℕ) (s times : List ℕ) (T : ℕ) → NoneHold (framing low high s) → NoneHold (quantities (modelOf s) times) → 1 ≤ T → uniformRate (modelOf s) * T ≤ 256000000 → WithinLimits (atTime (modelOf s) T)
 unfolding quantities maxReward jumpMillionths
-limits-by s times T first row low high =
-    let f = framed-by s first in
-    let highest = moments-by s first in
-    let row9 = row .1 .1 in
+limits-by low high s times T first row nonzero early =
+    let f = framed-by low high s first in
+    let highest = moments-by low high s first in
+    let row16 = row .1 .1 in
+    let row9 = row16 .1 in
     let tolerance = in-range (toleranceField s) 100000000 (row .0) in
     let sums : largest (stateCount s) (rowSum (modelOf s)) ≤ 10000000 = none-above 10000000 (stateCount s) (rowSum (modelOf s)) (row9 .1 .1 .0) in
     record {
@@ -96,12 +111,13 @@ limits-by s times T first row low high =
       highest-max = highest .1;
       tolerance-pos = tolerance .0;
       tolerance-max = tolerance .1;
+      weights-sum = weights-by (modelOf s) (row16 .0);
       rewards-max = none-above 1000000 (stateCount s) (rewardField s) (row9 .0);
       rewards-pos = some-above 0 (stateCount s) (rewardField s) (row9 .1 .0);
       rate-min = rate-pos (atTime (modelOf s) T);
       rate-max = rw (rate-at (modelOf s) T) (unfold uniformRate in omega (arith, sums));
-      jumps-pos = mul-pos (rate-pos (atTime (modelOf s) T)) low;
-      jumps-max = rw (rate-at (modelOf s) T) high;
+      jumps-pos = mul-pos (rate-pos (atTime (modelOf s) T)) nonzero;
+      jumps-max = rw (rate-at (modelOf s) T) early;
     }
 
 -- row 8: the file's time is not 0, and neither is the first of a list
@@ -112,43 +128,44 @@ times-by s times row =
     let nonzero : timeField s ≡ 0 → ⊥ = eqb-false (timeField s) 0 (both .0) in
     (omega (arith, nonzero), both .1)
 
--- the rows 1 to 11, which every call that reads a file shares: what their acceptance with E tells
+-- the rows 1 to 11 and 16, which every call that reads a file shares: what their acceptance with E tells
 pub record Rateable (s : List ℕ) (E : ℕ) : Type 0 where
   pub framed : Framed s
   pub highest-max : highestMoment s ≤ 8
   pub rate : E ≡ uniformRate (modelOf s)
   pub rate-max : E ≤ 10000000
 
-pub rateable : (s times : List ℕ) (E : ℕ) → firstHeld (framing s ++ quantities (modelOf s) times) (uniformRate (modelOf s)) ≡ accepted E → Rateable s E
+pub rateable : (low high : ℕ) (s times : List ℕ) (E : ℕ) → firstHeld (framing low high s ++ quantities (modelOf s) times) (uniformRate (modelOf s)) ≡ accepted E → Rateable s E
 unfolding quantities uniformRate
-rateable s times E h =
-    let none = none-in-parts (framing s) (quantities (modelOf s) times) (none-hold (framing s ++ quantities (modelOf s) times) (uniformRate (modelOf s)) E h) in
-    let rate : uniformRate (modelOf s) ≡ E = accepted-value (framing s ++ quantities (modelOf s) times) (uniformRate (modelOf s)) E h in
+rateable low high s times E h =
+    let first : Rows = framing low high s in
+    let none = none-in-parts first (quantities (modelOf s) times) (none-hold (first ++ quantities (modelOf s) times) (uniformRate (modelOf s)) E h) in
+    let rate : uniformRate (modelOf s) ≡ E = accepted-value (first ++ quantities (modelOf s) times) (uniformRate (modelOf s)) E h in
     record {
-      framed = framed-by s (none .0);
-      highest-max = moments-by s (none .0) .1;
+      framed = framed-by low high s (none .0);
+      highest-max = moments-by low high s (none .0) .1;
       rate = sym rate;
-      rate-max = omega (arith, none-above 10000000 (stateCount s) (rowSum (modelOf s)) (none .1 .1 .1 .1 .1 .0));
+      rate-max = omega (arith, none-above 10000000 (stateCount s) (rowSum (modelOf s)) (none .1 .1 .1 .1 .1 .1 .0));
     }
 
--- rows 1 to 12: those rows, then the jumps
-pub file-in-parts : (s : List ℕ) → fileJudgement s ≡ andThen (firstHeld (framing s ++ quantities (modelOf s) []) (uniformRate (modelOf s))) (judgedBy (jumps (uniformRate (modelOf s)) (timeField s)))
+-- rows 1 to 12 and 16: those rows, then the jumps
+pub file-in-parts : (low high : ℕ) (s : List ℕ) → fileJudgement low high s ≡ andThen (firstHeld (framing low high s ++ quantities (modelOf s) []) (uniformRate (modelOf s))) (judgedBy (jumps (uniformRate (modelOf s)) (timeField s)))
 unfolding fileJudgement
-file-in-parts s = in-parts (framing s ++ quantities (modelOf s) []) (jumps (uniformRate (modelOf s)) (timeField s)) (uniformRate (modelOf s)) tt
+file-in-parts low high s = in-parts (framing low high s ++ quantities (modelOf s) []) (jumps (uniformRate (modelOf s)) (timeField s)) (uniformRate (modelOf s)) tt
 
--- the whole table: rows 1 to 12, then the room
-pub judgement-in-parts : (s : List ℕ) (cells : ℕ) → judgement s cells ≡ andThen (fileJudgement s) (judgedBy (room (blockSize s) cells))
+-- the whole table: those rows, then the room
+pub judgement-in-parts : (s : List ℕ) (cells : ℕ) → judgement s cells ≡ andThen (fileJudgement 1 2 s) (judgedBy (room (blockSize s) cells))
 unfolding judgement fileJudgement rows
-judgement-in-parts s cells = in-parts (fileRows s) (room (blockSize s) cells) tt tt
+judgement-in-parts s cells = in-parts (fileRows 1 2 s) (room (blockSize s) cells) tt tt
 
 -- the table of a series: those rows, then the list, the jumps and the room
 pub series-in-parts : (s times : List ℕ) (levels cells : ℕ) →
     seriesJudgement s times levels cells
-    ≡ andThen (firstHeld (framing s ++ quantities (modelOf s) times) (uniformRate (modelOf s)))
+    ≡ andThen (firstHeld (framing 1 2 s ++ quantities (modelOf s) times) (uniformRate (modelOf s)))
     (judgedBy (listing times ++ jumps (uniformRate (modelOf s)) (lastTime times) ++ room (length times * blockSize s) cells ++ room (length times) levels))
 unfolding seriesJudgement seriesRows
 series-in-parts s times levels cells =
-    let first : Rows = framing s ++ quantities (modelOf s) times in
+    let first : Rows = framing 1 2 s ++ quantities (modelOf s) times in
     let X : Rows = jumps (uniformRate (modelOf s)) (lastTime times) in
     let C : Rows = room (length times * blockSize s) cells in
     let N : Rows = room (length times) levels in
@@ -157,28 +174,31 @@ series-in-parts s times levels cells =
     ∙ ap (λ (t : Rows). judgedBy t) (append-assoc first (listing times ++ X ++ C) N)
     ∙ in-parts first _ (uniformRate (modelOf s)) tt
 
--- rows 1 to 12: what acceptance tells
-model-by : (s : List ℕ) → NoneHold (fileRows s) → AcceptedModel s
+-- rows 1 to 12 and 16: what acceptance tells
+pub model-by : (low high : ℕ) (s : List ℕ) → NoneHold (fileRows low high s) → AcceptedModel low high s
 unfolding jumps
-model-by s none =
-    let to12 = none-in-parts (framing s ++ quantities (modelOf s) []) (jumps (uniformRate (modelOf s)) (timeField s)) none in
-    let to11 = none-in-parts (framing s) (quantities (modelOf s) []) (to12 .0) in
+model-by low high s none =
+    let to12 = none-in-parts (framing low high s ++ quantities (modelOf s) []) (jumps (uniformRate (modelOf s)) (timeField s)) none in
+    let to11 = none-in-parts (framing low high s) (quantities (modelOf s) []) (to12 .0) in
+    let versions = version-by low high s (to11 .0) in
     record {
-      framed = framed-by s (to11 .0);
-      limits = limits-by s [] (timeField s) (to11 .0) (to11 .1) (times-by s [] (to11 .1) .0) (ltb-false 256000000 (uniformRate (modelOf s) * timeField s) (to12 .1 .0));
+      framed = framed-by low high s (to11 .0);
+      counted = counted-by low high s (to11 .0);
+      oldest = versions .0;
+      newest = versions .1;
+      limits = limits-by low high s [] (timeField s) (to11 .0) (to11 .1) (times-by s [] (to11 .1) .0) (ltb-false 256000000 (uniformRate (modelOf s) * timeField s) (to12 .1 .0));
     }
 
-pub accepted-model : (s : List ℕ) → fileJudgement s ≡ accepted tt → AcceptedModel s
+pub accepted-model : (low high : ℕ) (s : List ℕ) → fileJudgement low high s ≡ accepted tt → AcceptedModel low high s
 unfolding fileJudgement
-accepted-model s passed = model-by s (none-hold (fileRows s) (tt {0}) tt passed)
+accepted-model low high s passed = model-by low high s (none-hold (fileRows low high s) (tt {0}) tt passed)
 
 -- all of them
 pub accepted-file : (s : List ℕ) (cells : ℕ) → judgement s cells ≡ accepted tt → AcceptedFile s cells
 unfolding judgement rows room
 accepted-file s cells passed =
-    let none = none-in-parts (fileRows s) (room (blockSize s) cells) (none-hold (rows s cells) (tt {0}) tt passed) in
-    let model = model-by s (none .0) in
-    record { framed = model .framed; limits = model .limits; room = ltb-false cells (stateCount s * highestMoment s) (none .1 .0) }
+    let none = none-in-parts (fileRows 1 2 s) (room (blockSize s) cells) (none-hold (rows s cells) (tt {0}) tt passed) in
+    record { model = model-by 1 2 s (none .0); room = ltb-false cells (blockSize s) (none .1 .0) }
 
 -- row 15: up to time n each time is above the one before it, and so none is above a later one
 rises : (n : ℕ) (times : List ℕ) → fallsUpTo n times ≡ false → (k : ℕ) → k < n → getD times k 0 < getD times (suc k) 0
@@ -216,7 +236,7 @@ pub record AcceptedSeries (s times : List ℕ) (levels cells : ℕ) : Type 0 whe
 
 -- no row of the series' table holds, part by part
 pub record SeriesRows (s times : List ℕ) (levels cells : ℕ) : Type 0 where
-  pub frame : NoneHold (framing s)
+  pub frame : NoneHold (framing 1 2 s)
   pub amounts : NoneHold (quantities (modelOf s) times)
   pub list : NoneHold (listing times)
   pub last : NoneHold (jumps (uniformRate (modelOf s)) (lastTime times))
@@ -231,11 +251,12 @@ series-rows s times levels cells passed =
     let N : Rows = room (length times) levels in
     let L : Rows = listing times in
     let Q : Rows = quantities (modelOf s) times in
-    let to13 = none-in-parts (framing s ++ Q ++ L ++ X ++ C) N (none-hold (seriesRows s times levels cells) (tt {0}) tt passed) in
-    let to12 = none-in-parts (framing s ++ Q ++ L ++ X) C (to13 .0) in
-    let to15 = none-in-parts (framing s ++ Q ++ L) X (to12 .0) in
-    let to11 = none-in-parts (framing s ++ Q) L (to15 .0) in
-    let to6 = none-in-parts (framing s) Q (to11 .0) in
+    let F : Rows = framing 1 2 s in
+    let to13 = none-in-parts (F ++ Q ++ L ++ X ++ C) N (none-hold (seriesRows s times levels cells) (tt {0}) tt passed) in
+    let to12 = none-in-parts (F ++ Q ++ L ++ X) C (to13 .0) in
+    let to15 = none-in-parts (F ++ Q ++ L) X (to12 .0) in
+    let to11 = none-in-parts (F ++ Q) L (to15 .0) in
+    let to6 = none-in-parts F Q (to11 .0) in
     record { frame = to6 .0; amounts = to6 .1; list = to11 .1; last = to15 .1; for-blocks = to12 .1; for-levels = to13 .1 }
 
 -- each time is at least 1, and E × T is within its limit
@@ -252,10 +273,10 @@ accepted-series s times levels cells passed =
     let none = series-rows s times levels cells passed in
     let count : (1 ≤ length times) × (length times ≤ 8) = unfold listing in in-range (length times) 8 (none .list .0) in
     record {
-      framed = framed-by s (none .frame);
+      framed = framed-by 1 2 s (none .frame);
       count-min = count .0;
       count-max = count .1;
-      limits = λ k h. let time = time-within s times levels cells none k h in limits-by s times (getD times k 0) (none .frame) (none .amounts) (time .0) (time .1);
+      limits = λ k h. let time = time-within s times levels cells none k h in limits-by 1 2 s times (getD times k 0) (none .frame) (none .amounts) (time .0) (time .1);
       block-room = unfold room in ltb-false cells (length times * blockSize s) (none .for-blocks .0);
       level-room = unfold room in ltb-false levels (length times) (none .for-levels .0);
     }
@@ -264,10 +285,10 @@ accepted-series s times levels cells passed =
 pub one-time : (s : List ℕ) (cells : ℕ) → AcceptedFile s cells → AcceptedSeries s (timeField s ∷ []) 1 cells
 one-time s cells f =
     record {
-      framed = f .framed;
+      framed = f .model .framed;
       count-min = omega arith;
       count-max = omega arith;
-      limits = λ k h. let first : k ≡ 0 = omega arith in rw first (f .limits);
+      limits = λ k h. let first : k ≡ 0 = omega arith in rw first (f .model .limits);
       block-room = omega (arith, f .room);
       level-room = omega arith;
     }

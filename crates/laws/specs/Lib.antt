@@ -19,6 +19,7 @@ pub mod WeightError
 pub mod TailBound
 pub mod AverageBound
 pub mod MomentLaws
+pub mod StartLaws
 pub mod Demand3
 pub mod SeriesLaws
 pub mod RemainderLaws

@@ -5,12 +5,13 @@ use native.Mathlib.Nat.{mul-le-mul, mul-le-mul-left}
 use mathlib.Core.Path.{_≡_, refl, sym, _∙_, ap₂}
 use mathlib.Core.List.{List}
 use lib.ListN.{getD}
+use borrow.Author.Tests.{lt-ltb, le-ltb}
 use Rattle.definitions.specs.Sums.{over}
 use Rattle.definitions.specs.Division.{Rounds}
-use Rattle.definitions.specs.Chain.{Model, modelOf}
+use Rattle.definitions.specs.Chain.{Model, modelOf, blockOf}
 use Rattle.definitions.specs.Vectors.{ONE}
 use Rattle.definitions.specs.Weights.{mode, weight, weightSum}
-use Rattle.definitions.specs.Moment.{term, weighted, lastQuotient, weightedMean, moment, cellOf, cell, modelLevel, outcome}
+use Rattle.definitions.specs.Moment.{term, weighted, lastQuotient, weightedMean, moment, startFigure, cellOf, figureOf, cell, modelLevel, outcome}
 use Rattle.definitions.specs.Rules.{Answer, accepted, refused, rows, judgement}
 use Rattle.laws.specs.Rounding.{quotient-at-most, quotient-below, remainder-below, row-of-place, place-in-row, place-below}
 use Rattle.laws.specs.Nearest.{nearest-within, nearest-at-most, nearest-up, nearest-down, nearest-rounds}
@@ -27,24 +28,33 @@ row-of-cell k R low = omega (arith, remainder-below k R low)
 pub state-of-cell : (k M R : ℕ) → k < M * R → k / R < M
 state-of-cell k M R h = quotient-below k M R h
 
--- M × R is at most 512
-pub count-max : (M R : ℕ) → M ≤ 64 → R ≤ 8 → M * R ≤ 512
-count-max M R h l = omega (arith, mul-le-mul h l)
+-- M rows of R cells are at most k × 8 where M is at most k
+pub count-max : (M R k : ℕ) → M ≤ k → R ≤ 8 → M * R ≤ k * 8
+count-max M R k h l = mul-le-mul h l
 
 -- the r of the cell of state i and moment r
 pub moment-of-cell : (i r R : ℕ) → 1 ≤ r → r ≤ R → (i * R + (r - 1)) % R + 1 ≡ r
 moment-of-cell i r R low high = omega (arith, place-in-row i (r - 1) R (omega arith))
 
--- that cell holds the moment
-pub cell-holds : (m : Model) (N i r : ℕ) → 1 ≤ r → r ≤ m .highest → cell m N (cellOf m i r) ≡ moment m N r i
+-- that cell holds the figure of row i
+pub cell-holds : (m : Model) (N i r : ℕ) → 1 ≤ r → r ≤ m .highest → cell m N (cellOf m i r) ≡ figureOf m N r i
 unfolding cell cellOf
 cell-holds m N i r low high =
-    ap₂ (moment m N) (moment-of-cell i r (m .highest) low high) (row-of-place i (r - 1) (m .highest) (omega arith))
+    ap₂ (figureOf m N) (moment-of-cell i r (m .highest) low high) (row-of-place i (r - 1) (m .highest) (omega arith))
+
+-- which is the moment of a state, and past the states the start figure
+pub figure-of-state : (m : Model) (N r i : ℕ) → i < m .states → figureOf m N r i ≡ moment m N r i
+unfolding figureOf
+figure-of-state m N r i l = rw (lt-ltb i (m .states) l) refl
+
+pub figure-of-start : (m : Model) (N r i : ℕ) → m .states ≤ i → figureOf m N r i ≡ startFigure m N r
+unfolding figureOf
+figure-of-start m N r i l = rw (le-ltb i (m .states) l) refl
 
 -- in the cells after a call
-pub getD-moment : (m : Model) (N i r : ℕ) (cells : List ℕ) → i < m .states → 1 ≤ r → r ≤ m .highest → getD (over (m .states * m .highest) (cell m N) cells) (cellOf m i r) 0 ≡ moment m N r i
-getD-moment m N i r cells l low high =
-    getD-over 0 (m .states * m .highest) (cell m N) cells (cellOf m i r) (unfold cellOf in place-below i (r - 1) (m .states) (m .highest) l (omega arith))
+pub getD-figure : (m : Model) (N i r : ℕ) (cells : List ℕ) → i < m .states + m .distributions → 1 ≤ r → r ≤ m .highest → getD (over (blockOf m) (cell m N) cells) (cellOf m i r) 0 ≡ figureOf m N r i
+getD-figure m N i r cells l low high =
+    getD-over 0 (blockOf m) (cell m N) cells (cellOf m i r) (unfold cellOf in place-below i (r - 1) (m .states + m .distributions) (m .highest) l (omega arith))
     ∙ cell-holds m N i r low high
 
 -- a term is at most its weight

@@ -66,13 +66,13 @@ unfolding restsOf
 rests-given m state n r h = rw h
 
 -- the file's refusal comes before all else
-pub remainders-refused : (s : List ℕ) (state n r k : ℕ) → fileJudgement s ≡ refused k → remaindersOf s state n r ≡ refused k
+pub remainders-refused : (s : List ℕ) (state n r k : ℕ) → fileJudgement 1 2 s ≡ refused k → remaindersOf s state n r ≡ refused k
 unfolding remaindersOf fileJudgement
-remainders-refused s state n r k e = other-value (fileRows s) (tt {0}) (restsOf (modelOf s) state n r) ∙ rw e refl
+remainders-refused s state n r k e = other-value (fileRows 1 2 s) (tt {0}) (restsOf (modelOf s) state n r) ∙ rw e refl
 
-pub remainders-accepted : (s : List ℕ) (state n r : ℕ) → fileJudgement s ≡ accepted tt → remaindersOf s state n r ≡ accepted (restsOf (modelOf s) state n r)
+pub remainders-accepted : (s : List ℕ) (state n r : ℕ) → fileJudgement 1 2 s ≡ accepted tt → remaindersOf s state n r ≡ accepted (restsOf (modelOf s) state n r)
 unfolding remaindersOf fileJudgement
-remainders-accepted s state n r e = other-value (fileRows s) (tt {0}) (restsOf (modelOf s) state n r) ∙ rw e refl
+remainders-accepted s state n r e = other-value (fileRows 1 2 s) (tt {0}) (restsOf (modelOf s) state n r) ∙ rw e refl
 
 -- state, n and r of remainders that are given are within their limits
 pub record Inside (m : Model) (state n r : ℕ) : Type 0 where
@@ -101,17 +101,17 @@ inside m state n r h =
 
 -- remainders that are given are those of the file's own divisions
 pub worked-out : (s : List ℕ) (state n r : ℕ) → WorkedOut (remaindersOf s state n r) s state n r
-worked-out s state n r = from (fileJudgement s) refl
+worked-out s state n r = from (fileJudgement 1 2 s) refl
   where
     m : Model
     m = modelOf s
 
-    within : AcceptedModel s → (b : Bool) → anyOutside m state n r ≡ b → WorkedOut (accepted (restsOf m state n r)) s state n r
+    within : AcceptedModel 1 2 s → (b : Bool) → anyOutside m state n r ≡ b → WorkedOut (accepted (restsOf m state n r)) s state n r
     within model true h = rw (rests-none m state n r h) tt
     within model false h =
         let i = inside m state n r h in
         rw (rests-given m state n r h) (worked (chainOf m) n r (state - 1) (model .limits .rate-min) (model .limits .rewards-pos) (i .jumps-min) (i .moment-min))
 
-    from : (a : Answer (Unit {0})) → fileJudgement s ≡ a → WorkedOut (remaindersOf s state n r) s state n r
-    from (accepted tt) e = rw (remainders-accepted s state n r e) (within (accepted-model s e) (anyOutside m state n r) refl)
+    from : (a : Answer (Unit {0})) → fileJudgement 1 2 s ≡ a → WorkedOut (remaindersOf s state n r) s state n r
+    from (accepted tt) e = rw (remainders-accepted s state n r e) (within (accepted-model 1 2 s e) (anyOutside m state n r) refl)
     from (refused k) e = rw (remainders-refused s state n r k e) tt

@@ -1,17 +1,17 @@
--- The tests of 1 to a limit, and single rows of the tables, from the numbers that they compare: 8 and 15, of a list of times, and 9 to 13.
+-- The tests of 1 to a limit, and single rows of the tables, from the numbers that they compare: 8 and 15, of a list of times, 16, and 9 to 13.
 use Prim.Native.Nat.{ℕ, zero, suc, _-_, _≤_, _<_}
 use native.Mathlib.Omega.{arith}
 use native.Mathlib.Decide.{decLe}
-use mathlib.Core.Path.{_≡_, refl, _∙_, ap, ap₂}
-use mathlib.Core.Bool.{Bool, true, false, not, _||_, or-true}
+use mathlib.Core.Path.{_≡_, refl, sym, _∙_, ap, ap₂}
+use mathlib.Core.Bool.{Bool, true, false, not, _&&_, _||_, or-true}
 use mathlib.Core.List.{List, [], _∷_}
 use lib.Dec.{eqb, leb, ltb}
 use lib.ListN.{length, getD}
-use borrow.Author.Tests.{le-leb, lt-leb, lt-ltb, le-ltb, ltb-false, eqb-false}
-use Rattle.definitions.specs.Sums.{largest, anyAbove}
+use borrow.Author.Tests.{le-leb, lt-leb, lt-ltb, le-ltb, ltb-false, eqb-true, eqb-false, not-false}
+use Rattle.definitions.specs.Sums.{sum, largest, anyAbove}
 use Rattle.definitions.specs.File.{stateCount, rewardField}
-use Rattle.definitions.specs.Chain.{modelOf, rowSum, uniformRate, maxReward}
-use Rattle.definitions.specs.Rules.{accepted, refused, outside, startsAtZero, fallsUpTo, tooManyJumps, jumps, room, judgedBy}
+use Rattle.definitions.specs.Chain.{Model, modelOf, rowSum, uniformRate, maxReward}
+use Rattle.definitions.specs.Rules.{accepted, refused, outside, misweighted, startsAtZero, fallsUpTo, tooManyJumps, jumps, room, judgedBy}
 use Rattle.laws.specs.SumLaws.{any-largest}
 use Rattle.laws.specs.RuleLaws.{row-stops, row-passes, none-left}
 
@@ -42,6 +42,17 @@ without-a-time (first ∷ later) h = absurd (omega arith)
 pub with-a-time : (t : List ℕ) → 0 < length t → startsAtZero t ≡ eqb (getD t 0 0) 0
 with-a-time [] h = absurd (omega arith)
 with-a-time (first ∷ later) h = refl
+
+-- row 16: a model without a starting distribution passes; with one it is the test of the weights' sum
+pub no-start : (m : Model) → m .distributions ≡ 0 → misweighted m ≡ false
+no-start m e = ap (λ (d : ℕ). ltb 0 d && not (eqb (sum (m .states) (m .start)) 1000000)) e
+
+pub with-start : (m : Model) → 0 < m .distributions → misweighted m ≡ not (eqb (sum (m .states) (m .start)) 1000000)
+with-start m h = ap (λ (b : Bool). b && not (eqb (sum (m .states) (m .start)) 1000000)) (lt-ltb 0 (m .distributions) h)
+
+-- where it passes, the weights of a starting distribution sum to 1,000,000
+pub weights-by : (m : Model) → misweighted m ≡ false → 0 < m .distributions → sum (m .states) (m .start) ≡ 1000000
+weights-by m h some = eqb-true (sum (m .states) (m .start)) 1000000 (not-false (eqb (sum (m .states) (m .start)) 1000000) (sym (with-start m some) ∙ h))
 
 -- row 15: no time is compared yet
 pub none-compared : (t : List ℕ) → fallsUpTo 0 t ≡ false

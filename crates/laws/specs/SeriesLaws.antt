@@ -9,8 +9,8 @@ use lib.Seq.{length-sets, length-take-le}
 use borrow.Author.Tests.{le-ltb, ne-eqb}
 use Rattle.definitions.specs.Sums.{over}
 use Rattle.definitions.specs.Bytes.{big, bytesOf}
-use Rattle.definitions.specs.File.{stateCount, highestMoment, timeField, rateField, withTime}
-use Rattle.definitions.specs.Chain.{Model, modelOf, atTime, jumpRate, rowSum, uniformRate}
+use Rattle.definitions.specs.File.{stateCount, highestMoment, timeField, distributions, rewardField, rateField, withTime}
+use Rattle.definitions.specs.Chain.{Model, modelOf, atTime, jumpRate, rowSum, uniformRate, blockOf}
 use Rattle.definitions.specs.Rules.{accepted, framing, quantities, jumps, room, blockSize, rows, judgement, seriesJudgement}
 use Rattle.definitions.specs.Moment.{cell, modelLevel, cellsAfter}
 use Rattle.definitions.specs.Promise.{Promise}
@@ -58,8 +58,15 @@ module _ (s : List ℕ) (T : ℕ) (header : 13 ≤ length s) where
   highest-with : highestMoment (withTime s T) ≡ highestMoment s
   highest-with = byte-before 4 (omega arith)
 
+  distributions-with : distributions (withTime s T) ≡ distributions s
+  unfolding distributions
+  distributions-with = rw (byte-before 2 (omega arith)) refl
+
+  reward-with : (i : ℕ) → rewardField (withTime s T) i ≡ rewardField s i
+  reward-with i = rw (states-with, distributions-with) (number-after 4 _ (omega arith))
+
   rate-with : (i j : ℕ) → rateField (withTime s T) i j ≡ rateField s i j
-  rate-with i j = rw states-with (number-after 4 _ (omega arith))
+  rate-with i j = rw (states-with, distributions-with) (number-after 4 _ (omega arith))
 
   -- its model is that of s with the time T
   pub model-with : T < 2 ^ 32 → modelOf (withTime s T) ≡ atTime (modelOf s) T
@@ -70,15 +77,17 @@ module _ (s : List ℕ) (T : ℕ) (header : 13 ≤ length s) where
         highest = highest-with i;
         tolerance = number-before 4 5 (omega arith) i;
         time = time-with h i;
-        reward = λ k. number-after 4 (13 + 4 * k) (omega arith) i;
+        distributions = distributions-with i;
+        start = λ k. number-after 4 (13 + 4 * k) (omega arith) i;
+        reward = λ k. reward-with k i;
         transition = λ j k. rate-with j k i;
       }
 
   -- rows 1 to 6 read none of it
-  framing-with : framing (withTime s T) ≡ framing s
+  framing-with : (low high : ℕ) → framing low high (withTime s T) ≡ framing low high s
   unfolding framing
-  framing-with =
-      rw (length-with, states-with, highest-with, number-before 2 0 (omega arith), byte-before 2 (omega arith)) refl
+  framing-with low high =
+      rw (length-with, states-with, highest-with, distributions-with, number-before 2 0 (omega arith), byte-before 2 (omega arith)) refl
 
 -- rows 7 to 11 pass without a list, with any time but 0, where they pass with the file's time and a list
 quantities-at : (m : Model) (times : List ℕ) (T : ℕ) → NoneHold (quantities m times) → 1 ≤ T → NoneHold (quantities (atTime m T) [])
@@ -113,11 +122,11 @@ module _ (s times : List ℕ) (levels cells : ℕ) (none : SeriesRows s times le
   unfolding judgement rows jumps room
   run-accepted =
       all-pass (rows run (blockSize s)) tt
-      (none-together (framing run ++ quantities (modelOf run) [] ++ jumps (uniformRate (modelOf run)) (timeField run)) (room (blockSize run) (blockSize s))
-      (none-together (framing run ++ quantities (modelOf run) []) (jumps (uniformRate (modelOf run)) (timeField run))
-      (none-together (framing run) (quantities (modelOf run) []) (rw (framing-with s T header) (none .frame)) (subst (λ (m : Model). NoneHold (quantities m [])) (sym model-run) (quantities-at (modelOf s) times T (none .amounts) (within .0))))
+      (none-together (framing 1 2 run ++ quantities (modelOf run) [] ++ jumps (uniformRate (modelOf run)) (timeField run)) (room (blockSize run) (blockSize s))
+      (none-together (framing 1 2 run ++ quantities (modelOf run) []) (jumps (uniformRate (modelOf run)) (timeField run))
+      (none-together (framing 1 2 run) (quantities (modelOf run) []) (rw (framing-with s T header 1 2) (none .frame)) (subst (λ (m : Model). NoneHold (quantities m [])) (sym model-run) (quantities-at (modelOf s) times T (none .amounts) (within .0))))
       (le-ltb 256000000 (uniformRate (modelOf run) * timeField run) few, tt))
-      (le-ltb (blockSize s) (blockSize run) (rw (states-with s T header, highest-with s T header) (le-refl (blockSize s))), tt))
+      (le-ltb (blockSize s) (blockSize run) (rw (states-with s T header, highest-with s T header, distributions-with s T header) (le-refl (blockSize s))), tt))
 
 module _ (s times levels cells : List ℕ) (passed : seriesJudgement s times (length levels) (length cells) ≡ accepted tt) (k : ℕ) (h : k < length times) where
   f : AcceptedSeries s times (length levels) (length cells)
@@ -139,7 +148,7 @@ module _ (s times levels cells : List ℕ) (passed : seriesJudgement s times (le
   unfolding blocksAfter cellsAfter levelAt
   block-in =
       block-is (blockSize s) 0 (length times) (λ j. cell (modelAt s times j) (levelAt s times j)) cells k h (f .block-room)
-      ∙ ap (λ (m : Model). over (m .states * m .highest) (cell m (modelLevel m)) (block s cells k)) (sym is-model)
+      ∙ ap (λ (m : Model). over (blockOf m) (cell m (modelLevel m)) (block s cells k)) (sym is-model)
 
   -- what is lent of the cells for a block
   size : length (block s cells k) ≡ blockSize s
