@@ -1,4 +1,4 @@
--- The uniformized chain: each row of c sums to E, f ≤ F, and the arrays that hold a chain.
+-- The starting distributions that a file holds; the uniformized chain: each row of c sums to E, f ≤ F; and the arrays that hold a chain.
 use Prim.Native.Nat.{ℕ, zero, suc, _+_, _*_, _-_, _≤_, _<_}
 use native.Mathlib.Nat.{mul-le-mul}
 use native.Mathlib.Omega.{arith}
@@ -9,10 +9,20 @@ use lib.ListN.{getD}
 use lib.Dec.{eqb, ltb}
 use borrow.Author.Tests.{eq-eqb, ne-eqb, lt-ltb}
 use Rattle.definitions.specs.Sums.{sum, pick}
+use Rattle.definitions.specs.File.{version, distributions}
 use Rattle.definitions.specs.Chain.{Model, atTime, jumpRate, rowSum, uniformRate, c, maxReward, Chain, chainOf, padded, flatEntry, flat, arrays, sizesOf}
 use Rattle.laws.specs.SumLaws.{sum-same, le-largest}
 use Rattle.laws.specs.Rounding.{row-of-place, place-in-row, place-below}
 use Rattle.laws.specs.ListLaws.{getD-firsts, getD-over}
+
+-- one starting distribution in version 2, none in any other
+pub version-2 : (s : List ℕ) → version s ≡ 2 → distributions s ≡ 1
+unfolding distributions
+version-2 s e = rw (eq-eqb (version s) 2 e) refl
+
+pub other-version : (s : List ℕ) → (version s ≡ 2 → ⊥) → distributions s ≡ 0
+unfolding distributions
+other-version s e = rw (ne-eqb (version s) 2 e) refl
 
 -- the time has no part in E, the chain or its sizes
 pub rate-at : (m : Model) (T : ℕ) → uniformRate (atTime m T) ≡ uniformRate m

@@ -1,4 +1,4 @@
--- Where the rewards and the rows of rates lie in a framed file.
+-- Where the starting weights, the rewards and the rows of rates lie in a framed file.
 use Prim.Native.Nat.{ℕ, _+_, _*_, _-_, _≤_, _<_}
 use native.Mathlib.Omega.{arith}
 use native.Mathlib.Nat.{mul-le-mul-left}
@@ -12,11 +12,11 @@ use Rattle.definitions.specs.File.{stateCount, rewardsAt, rowAt, place, rateFie
 use Rattle.definitions.specs.Sums.{pick}
 use Rattle.definitions.specs.Bytes.{big}
 use Rattle.laws.specs.Acceptance.{Framed}
-use Rattle.reader.specs.Big.{big-drop}
+use Rattle.laws.specs.ByteLaws.{big-drop}
 
--- the reward of a state lies in the file
-pub reward-room : (s : List ℕ) (i : ℕ) → Framed s → i < stateCount s → rewardsAt + 4 * i + 4 ≤ length s
-reward-room s i f l =
+-- the M rewards lie in the file, and so do M numbers from the weights' place on
+pub rewards-room : (s : List ℕ) → Framed s → rewardsAt s + 4 * stateCount s ≤ length s
+rewards-room s f =
     let whole : stateCount s * 1 ≤ stateCount s * stateCount s = mul-le-mul-left (stateCount s) (f .states-min) in
     omega arith
 

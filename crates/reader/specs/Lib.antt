@@ -1,5 +1,4 @@
 -- What the reader's contracts cite besides document 01's definitions, and the laws that its callers use.
 pub mod Framed
 pub mod SizesRead
-pub mod Big
 pub mod Rows

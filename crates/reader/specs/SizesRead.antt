@@ -4,7 +4,7 @@ use mathlib.Core.Path.{_≡_, refl}
 use mathlib.Core.List.{List}
 use Rattle.definitions.specs.declared.Sizes.{Sizes}
 use Rattle.definitions.specs.Sums.{largest}
-use Rattle.definitions.specs.Chain.{Model, rowSum, uniformRate, maxReward, padded, sizesOf}
+use Rattle.definitions.specs.Chain.{Model, rowSum, uniformRate, maxReward, padded, blockOf, sizesOf}
 use Rattle.laws.specs.SumLaws.{largest-same}
 use Rattle.laws.specs.ChainLaws.{getD-padded}
 use Rattle.laws.specs.ArrayLaws.{entryOf}
@@ -23,6 +23,6 @@ pub reward-of-rewards : (m : Model) (rewards : List ℕ) → m .states ≤ 64 �
 unfolding maxReward
 reward-of-rewards m rewards h e = largest-padded (m .states) (m .reward) rewards h e
 
--- M, R, E and F, each as it was read
-pub sizes-read : {M R E F : ℕ} (m : Model) → M ≡ m .states → R ≡ m .highest → E ≡ uniformRate m → F ≡ maxReward m → _≡_ {A = Sizes} (record { states = M; highest = R; rate = E; largest = F }) (sizesOf m)
-sizes-read m a b c d = rw (a, b, c, d) refl
+-- M, R, the cells of a block, E and F, each as it was read
+pub sizes-read : {M R B E F : ℕ} (m : Model) → M ≡ m .states → R ≡ m .highest → B ≡ blockOf m → E ≡ uniformRate m → F ≡ maxReward m → _≡_ {A = Sizes} (record { states = M; highest = R; block = B; rate = E; largest = F }) (sizesOf m)
+sizes-read m a b c d e = λ k. record { states = a k; highest = b k; block = c k; rate = d k; largest = e k }

@@ -2,15 +2,16 @@
 //
 // Document 01 counts bytes from 0 and numbers are big-endian. The header's fields ask for its 13 bytes;
 // the functions past it ask that the file is framed (`Framed` in the crate laws): M is 1 to 64, and the
-// file is as long as M says. What stops a file is judged in the crate refusals.
+// file is as long as M and its version say. What stops a file is judged in the crate refusals.
 ghost use mathlib.Core.Path.{_≡_};
 ghost use Prim.Native.Nat.{max, _+_, _-_, _*_, _≤_, _<_, _^_};
 ghost use lib.Dec.{eqb};
 ghost use lib.ListN.{length, drop, getD};
-ghost use Rattle.definitions.specs.Sums.{largest, pick};
+ghost use Rattle.definitions.specs.Sums.{sum, largest, pick};
 ghost use Rattle.definitions.specs.Bytes.{big};
-ghost use Rattle.definitions.specs.File.{lengthField, version, stateCount, highestMoment, toleranceField, timeField, rewardsAt, rewardField, rowAt, place};
+ghost use Rattle.definitions.specs.File.{lengthField, version, stateCount, highestMoment, toleranceField, timeField, distributions, weightField, rewardsAt, rewardField, rowAt, place};
 ghost use Rattle.definitions.specs.Chain.{modelOf, rowSum, uniformRate, maxReward, chainOf, padded, flat, sizesOf};
+ghost use Rattle.definitions.specs.Rules.{blockSize};
 ghost use Rattle.laws.specs.Acceptance.{Framed};
 ghost use Rattle.laws.specs.ArrayLaws.{entryOf};
 ghost use Rattle.reader.specs.Rows.{chainRows, WritesRow};
@@ -30,23 +31,7 @@ const TOLERANCE_AT: usize = 5;
 
 const TIME_AT: usize = 9;
 
-const REWARDS_AT: usize = 13;
-
-// Where f(i), the reward rate of state i, stands.
-fn reward_at(i: usize) -> usize
-    requires { ⌜ i < 64 ⌝ }
-    ensures { λ r. ⌜ r ≡ rewardsAt + 4 * i ⌝ }
-{
-    REWARDS_AT + 4 * i
-}
-
-// Where row i of the rates starts: after M rewards and i rows of M - 1 rates.
-fn row_at(states: usize, i: usize) -> usize
-    requires { ⌜ (1 ≤ states) × (rewardsAt + 4 * states + 4 * (states - 1) * i < 2 ^ 64) ⌝ }
-    ensures { λ r. ⌜ r ≡ rewardsAt + 4 * states + 4 * (states - 1) * i ⌝ }
-{
-    REWARDS_AT + 4 * states + 4 * (states - 1) * i
-}
+const WEIGHTS_AT: usize = 13;
 
 // 2. Numbers in a slice.
 
@@ -119,19 +104,74 @@ pub fn time(file: &[u8]) -> u32
     be(file, TIME_AT, 4) as u32
 }
 
-// 4. The rewards.
+// How many starting distributions the file holds: one in version 2, none in version 1.
+pub fn distributions(file: &[u8]) -> usize
+    requires { ⌜ 13 ≤ length (now file) ⌝ }
+    ensures { λ r. ⌜ (r ≡ distributions (now (file .entry))) × (r ≤ 1) ⌝ }
+{
+    if version(file) == 2 { 1 } else { 0 }
+}
+
+// The cells of one block: one for each r of each state, and one for each r of the starting distribution.
+pub fn block_size(file: &[u8]) -> usize
+    requires { ⌜ Framed (now file) × (highestMoment (now file) ≤ 8) ⌝ }
+    ensures { λ r. ⌜ r ≡ blockSize (now (file .entry)) ⌝ }
+{
+    let rows = state_count(file) + distributions(file);
+    rows * highest_moment(file)
+}
+
+// 4. The starting weights and the rewards.
+
+// Where the reward rates start: after M weights for each starting distribution.
+fn rewards_at(file: &[u8]) -> usize
+    requires { ⌜ Framed (now file) ⌝ }
+    ensures { λ r. ⌜ r ≡ rewardsAt (now (file .entry)) ⌝ }
+{
+    let weights = distributions(file) * state_count(file);
+    WEIGHTS_AT + 4 * weights
+}
+
+// M numbers of 4 bytes each from a place on, for 64 states: 0 past M.
+fn numbers_at(file: &[u8], at: usize) -> [u64; 64]
+    requires { ⌜ Framed (now file) × (at + 4 * stateCount (now file) ≤ length (now file)) ⌝ }
+    ensures { λ r. ⌜ r ≡ padded (stateCount (now (file .entry))) (λ i. big 4 (now (file .entry)) (at + 4 * i)) ⌝ }
+{
+    let states = state_count(file);
+    let mut numbers = [0u64; 64];
+    for i in 0..states {
+        numbers[i] = be(file, at + 4 * i, 4);
+    }
+    numbers
+}
+
+// The starting weights, in millionths, for 64 states: 0 past M. They are asked for where the file holds them.
+pub fn weights_of(file: &[u8]) -> [u64; 64]
+    requires { ⌜ Framed (now file) ⌝ }
+    ensures { λ r. ⌜ r ≡ padded (stateCount (now (file .entry))) (weightField (now (file .entry))) ⌝ }
+{
+    numbers_at(file, WEIGHTS_AT)
+}
+
+// Their sum, which may pass 32 bits.
+pub fn weight_sum(file: &[u8]) -> u64
+    requires { ⌜ Framed (now file) ⌝ }
+    ensures { λ r. ⌜ r ≡ sum (stateCount (now (file .entry))) (weightField (now (file .entry))) ⌝ }
+{
+    let states = state_count(file);
+    let mut total: u64 = 0;
+    for i in 0..states {
+        total += be(file, WEIGHTS_AT + 4 * i, 4);
+    }
+    total
+}
 
 // f for 64 states: the reward rates, 0 past M.
 pub fn rewards_of(file: &[u8]) -> [u64; 64]
     requires { ⌜ Framed (now file) ⌝ }
     ensures { λ r. ⌜ r ≡ padded (stateCount (now (file .entry))) (rewardField (now (file .entry))) ⌝ }
 {
-    let states = state_count(file);
-    let mut rewards = [0u64; 64];
-    for i in 0..states {
-        rewards[i] = be(file, reward_at(i), 4);
-    }
-    rewards
+    numbers_at(file, rewards_at(file))
 }
 
 fn larger(a: u64, b: u64) -> u64
@@ -164,12 +204,13 @@ pub fn max_reward(file: &[u8]) -> u64
 
 // 5. The rows of rates.
 
-// The part of the file where state i's row of rates starts.
-pub fn row_of(file: &[u8], i: usize) -> &[u8]
-    requires { ⌜ (1 ≤ stateCount (now file)) × (rowAt (now file) i ≤ length (now file)) ⌝ }
+// The part of the file where state i's row of rates starts: after M rewards and i rows of M - 1 rates.
+fn row_of(file: &[u8], i: usize) -> &[u8]
+    requires { ⌜ Framed (now file) × (i < stateCount (now file)) ⌝ }
     ensures { λ r. ⌜ now r ≡ drop (rowAt (now (file .entry)) i) (now (file .entry)) ⌝ }
 {
-    let at = row_at(state_count(file), i);
+    let states = state_count(file);
+    let at = rewards_at(file) + 4 * states + 4 * (states - 1) * i;
     &file[at..]
 }
 
@@ -223,19 +264,21 @@ pub fn uniform_rate(file: &[u8], sums: &[u64; 64]) -> u64
     larger(1, largest_of(sums, state_count(file)))
 }
 
-// M, R, E and F.
+// M, R, the cells of a block, E and F.
 pub fn sizes_of(file: &[u8], sums: &[u64; 64]) -> Sizes
-    requires { ⌜ Framed (now file) ⌝ }
+    requires { ⌜ Framed (now file) × (highestMoment (now file) ≤ 8) ⌝ }
     requires { ⌜ now sums ≡ padded (stateCount (now file)) (rowSum (modelOf (now file))) ⌝ }
     ensures { λ r. ⌜ r ≡ sizesOf (modelOf (now (file .entry))) ⌝ }
 {
     let states = state_count(file);
     let highest = highest_moment(file);
+    let block = block_size(file);
     let rate = uniform_rate(file, sums);
     let largest = max_reward(file);
     Sizes {
         states,
         highest,
+        block,
         rate,
         largest,
     }

@@ -3,7 +3,7 @@ use Prim.Native.Nat.{ℕ, _+_, _-_, _≤_, _<_, _^_, _*_}
 use mathlib.Core.Path.{_≡_, sym, ap₂, _∙_}
 use native.Mathlib.Omega.{arith}
 use Rattle.definitions.specs.Bytes.{big}
-use Rattle.reader.specs.Big.{big-none, big-more, below-more, below-wider}
+use Rattle.laws.specs.ByteLaws.{big-none, big-more, below-more, below-wider}
 use Rattle.reader.proofs.be.Statement.{statement}
 use Rattle.reader.proofs.be.Tie as tie
 

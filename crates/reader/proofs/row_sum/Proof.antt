@@ -3,11 +3,12 @@ use Prim.Native.Nat.{_+_, _*_, _-_, _≤_}
 use mathlib.Core.Path.{_≡_, refl, _∙_, ap₂, sym}
 use native.Mathlib.Omega.{arith}
 use native.Mathlib.Numerals.{add-one}
+use borrow.Author.Needs.{needs}
 use Rattle.definitions.specs.Sums.{sum}
 use Rattle.definitions.specs.File.{stateCount}
 use Rattle.definitions.specs.Chain.{modelOf, jumpRate, rowSum}
 use Rattle.laws.specs.SumLaws.{sum-zero, sum-suc}
-use Rattle.reader.specs.Framed.{row-room, entry-room, entry-in-row}
+use Rattle.reader.specs.Framed.{entry-room, entry-in-row}
 use Rattle.reader.proofs.row_sum.Statement.{statement}
 use Rattle.reader.proofs.row_sum.Tie as tie
 
@@ -16,11 +17,6 @@ Inv-loop file i states row total₀ j₀ total j = (j ≤ states) × (total ≡ 
 
 abbrev μ-loop : tie.MeasureT-loop
 μ-loop file i states row total₀ j₀ total j = states - j
-
-row-of-requires : tie.Need-row-of-requires Inv-loop μ-loop
-row-of-requires c κs =
-    let start = c .before .before in
-    omega (arith, row-room (start .args .file .now) (start .args .i) (start .pre .0) (start .pre .1))
 
 entry-in-requires : tie.Need-entry-in-requires Inv-loop μ-loop
 entry-in-requires c κs other =
@@ -54,7 +50,7 @@ row-sum-spec =
     Inv-loop
     μ-loop
     (λ c κs. omega arith)
-    row-of-requires
+    (λ c κs. search needs)
     (λ c. (omega arith, sym (sum-zero _), omega arith))
     entry-in-requires
     (λ c. omega (arith, c .entry-in .ensures .1 (omega arith)))

@@ -3,11 +3,12 @@ use Prim.Native.Nat.{ℕ, _+_, _*_, _-_, _≤_, _<_}
 use mathlib.Core.Path.{_≡_, refl, sym, _∙_, ap, ap₂}
 use native.Mathlib.Omega.{arith}
 use lib.ListN.{length, length-set}
+use borrow.Author.Needs.{needs}
 use Rattle.definitions.specs.File.{stateCount}
 use Rattle.definitions.specs.Chain.{modelOf, chainOf, flatEntry}
 use Rattle.laws.specs.Rounding.{place-below}
 use Rattle.laws.specs.ChainLaws.{square-max}
-use Rattle.reader.specs.Framed.{row-room, entry-room}
+use Rattle.reader.specs.Framed.{entry-room}
 use Rattle.reader.specs.Rows.{filledTo, entry-is, filled-more, row-done}
 use Rattle.reader.proofs.write_row.Statement.{statement}
 use Rattle.reader.proofs.write_row.Tie as tie
@@ -18,11 +19,6 @@ Inv-loop file i diagonal chain₀ states row j₀ chain j =
 
 abbrev μ-loop : tie.MeasureT-loop
 μ-loop file i diagonal chain₀ states row j₀ chain j = states - j
-
-row-of-requires : tie.Need-row-of-requires Inv-loop μ-loop
-row-of-requires c κs =
-    let start = c .before .before .before in
-    omega (arith, row-room (start .args .file .now) (start .args .i) (start .pre .framed) (start .pre .state))
 
 loop-holds : tie.Need-loop-holds Inv-loop μ-loop
 loop-holds c = (
@@ -93,7 +89,7 @@ write-row-spec =
     Inv-loop
     μ-loop
     (λ c κs. omega arith)
-    row-of-requires
+    (λ c κs. search needs)
     loop-holds
     entry-in-requires
     (λ c. omega (arith, c .entry-in .ensures .1 (start c .pre .stays-max)))
