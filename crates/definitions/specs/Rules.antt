@@ -23,6 +23,10 @@ Rows = List (ℕ × Bool)
 abbrev pub outside : ℕ → ℕ → Bool
 outside x most = eqb x 0 || ltb most x
 
+-- a number that is not from low to high
+abbrev pub beyond : ℕ → ℕ → ℕ → Bool
+beyond low high x = ltb x low || ltb high x
+
 -- what the length field of a file holds: 4 × M × M + 11, and 4 × M for each starting distribution
 abbrev pub fittingLength : List ℕ → ℕ
 fittingLength s = 4 * stateCount s * stateCount s + 4 * (distributions s * stateCount s) + 11
@@ -32,7 +36,7 @@ unfoldable pub framing : ℕ → ℕ → List ℕ → Rows
 framing low high s =
     (1, ltb (length s) 13)
     ∷ (2, not (eqb (lengthField s) (length s - 2)))
-    ∷ (3, ltb (version s) low || ltb high (version s))
+    ∷ (3, beyond low high (version s))
     ∷ (4, outside (stateCount s) 64)
     ∷ (5, outside (highestMoment s) 8)
     ∷ (6, not (eqb (lengthField s) (fittingLength s)))
@@ -76,11 +80,8 @@ abbrev pub lastTime : List ℕ → ℕ
 lastTime times = getD times (length times - 1) 0
 
 -- row 12, the jumps: E × T, for a time T
-abbrev pub tooManyJumps : ℕ → ℕ → Bool
-tooManyJumps E T = ltb 256000000 (E * T)
-
 unfoldable pub jumps : ℕ → ℕ → Rows
-jumps E T = (12, tooManyJumps E T) ∷ []
+jumps E T = (12, ltb 256000000 (E * T)) ∷ []
 
 -- row 13, the room: fewer lent than needed
 unfoldable pub room : ℕ → ℕ → Rows

@@ -24,6 +24,9 @@ pub other-version : (s : List ℕ) → (version s ≡ 2 → ⊥) → distributio
 unfolding distributions
 other-version s e = rw (ne-eqb (version s) 2 e) refl
 
+pub distributions-max : (s : List ℕ) → distributions s ≤ 1
+distributions-max s = elim (ℕ-discrete (version s) 2) [ yes e ↦ omega (arith, version-2 s e) | no ne ↦ omega (arith, other-version s ne) ]
+
 -- the time has no part in E, the chain or its sizes
 pub rate-at : (m : Model) (T : ℕ) → uniformRate (atTime m T) ≡ uniformRate m
 unfolding jumpRate rowSum uniformRate

@@ -11,7 +11,7 @@ use borrow.Author.Tests.{le-leb, lt-leb, lt-ltb, le-ltb, ltb-false, eqb-true, eq
 use Rattle.definitions.specs.Sums.{sum, largest, anyAbove}
 use Rattle.definitions.specs.File.{stateCount, rewardField}
 use Rattle.definitions.specs.Chain.{Model, modelOf, rowSum, uniformRate, maxReward}
-use Rattle.definitions.specs.Rules.{accepted, refused, outside, misweighted, startsAtZero, fallsUpTo, tooManyJumps, jumps, room, judgedBy}
+use Rattle.definitions.specs.Rules.{accepted, refused, outside, misweighted, startsAtZero, fallsUpTo, jumps, room, judgedBy}
 use Rattle.laws.specs.SumLaws.{any-largest}
 use Rattle.laws.specs.RuleLaws.{row-stops, row-passes, none-left}
 
@@ -113,10 +113,7 @@ module _ (s : List ℕ) where
   unfolding uniformRate
   sums-within h = not-above 10000000 (stateCount s) (rowSum (modelOf s)) (omega arith)
 
--- row 12: with an equal time it tests the same, and with equal numbers it answers the same
-pub same-test : {T' : ℕ} (E T : ℕ) → T' ≡ T → tooManyJumps E T' ≡ tooManyJumps E T
-same-test E T t = ap (tooManyJumps E) t
-
+-- row 12: with equal numbers it answers the same
 pub same-jumps : {E' T' : ℕ} (E T : ℕ) → E' ≡ E → T' ≡ T → judgedBy (jumps E' T') ≡ judgedBy (jumps E T)
 same-jumps E T e t = rw (e, t) refl
 

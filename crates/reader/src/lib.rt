@@ -107,7 +107,7 @@ pub fn time(file: &[u8]) -> u32
 // How many starting distributions the file holds: one in version 2, none in version 1.
 pub fn distributions(file: &[u8]) -> usize
     requires { ⌜ 13 ≤ length (now file) ⌝ }
-    ensures { λ r. ⌜ (r ≡ distributions (now (file .entry))) × (r ≤ 1) ⌝ }
+    ensures { λ r. ⌜ r ≡ distributions (now (file .entry)) ⌝ }
 {
     if version(file) == 2 { 1 } else { 0 }
 }

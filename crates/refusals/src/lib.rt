@@ -7,17 +7,19 @@ ghost use mathlib.Core.Path.{_≡_};
 ghost use mathlib.Core.List.{_++_};
 ghost use Prim.Native.Nat.{_-_, _*_, _≤_, _<_, _^_};
 ghost use lib.ListN.{length};
-ghost use Rattle.definitions.specs.File.{highestMoment};
+ghost use Rattle.definitions.specs.File.{stateCount, highestMoment};
 ghost use Rattle.definitions.specs.Chain.{modelOf, uniformRate};
-ghost use Rattle.definitions.specs.Rules.{outside, framing, startsAtZero, quantities, fallsUpTo, listing, lastTime, tooManyJumps, jumps, room, blockSize, firstHeld, judgedBy, fileJudgement, judgement, seriesJudgement, verdict};
+ghost use Rattle.definitions.specs.Rules.{outside, beyond, fittingLength, framing, misweighted, startsAtZero, quantities, fallsUpTo, listing, lastTime, jumps, room, blockSize, firstHeld, judgedBy, fileJudgement, judgement, seriesJudgement, verdict};
 ghost use Rattle.laws.specs.Acceptance.{Framed};
 ghost use Rattle.refusals.specs.Rated.{ratedAs};
 use definitions::Judgement;
 use definitions::MOST_TIMES;
 
-// The header's bytes, and the largest number that each row lets pass.
+// The header's bytes, the sum of the starting weights, and the largest number that each row lets pass.
 
 const HEADER: usize = 13;
+
+const ALL_WEIGHT: u64 = 1_000_000;
 
 const MOST_STATES: u64 = 64;
 
@@ -38,9 +40,26 @@ pub fn outside(x: u64, most: u64) -> bool
     x == 0 || x > most
 }
 
-// Rows 1 to 6: the framing.
-fn judge_framing(file: &[u8]) -> Judgement
-    ensures { λ r. ⌜ verdict r ≡ judgedBy (framing (now (file .entry))) ⌝ }
+// Whether x is not from low to high.
+fn beyond(low: u64, high: u64, x: u64) -> bool
+    ensures { λ r. ⌜ r ≡ beyond low high x ⌝ }
+{
+    x < low || x > high
+}
+
+// What the length field holds: 4 × M × M + 11, and 4 × M for each starting distribution.
+fn fitting_length(file: &[u8]) -> u64
+    requires { ⌜ (13 ≤ length (now file)) × (stateCount (now file) ≤ 64) ⌝ }
+    ensures { λ r. ⌜ r ≡ fittingLength (now (file .entry)) ⌝ }
+{
+    let states = reader::state_count(file) as u64;
+    let weights = reader::distributions(file) as u64 * states;
+    4 * states * states + 4 * weights + 11
+}
+
+// Rows 1 to 6: the framing, for a call that admits the versions from low to high.
+fn judge_framing(file: &[u8], low: u64, high: u64) -> Judgement
+    ensures { λ r. ⌜ verdict r ≡ judgedBy (framing low high (now (file .entry))) ⌝ }
 {
     if file.len() < HEADER {
         return Judgement::Refused(1);
@@ -49,17 +68,16 @@ fn judge_framing(file: &[u8]) -> Judgement
     if length != (file.len() - 2) as u64 {
         return Judgement::Refused(2);
     }
-    if reader::version(file) != 1 {
+    if beyond(low, high, reader::version(file)) {
         return Judgement::Refused(3);
     }
-    let states = reader::state_count(file) as u64;
-    if outside(states, MOST_STATES) {
+    if outside(reader::state_count(file) as u64, MOST_STATES) {
         return Judgement::Refused(4);
     }
     if outside(reader::highest_moment(file) as u64, MOST_MOMENTS) {
         return Judgement::Refused(5);
     }
-    if length != 4 * states * states + 11 {
+    if length != fitting_length(file) {
         return Judgement::Refused(6);
     }
     Judgement::Accepted
@@ -82,7 +100,18 @@ fn starts_at_zero(times: &[u32]) -> bool
     times[0] == 0
 }
 
-// Rows 7 to 11: the quantities. Some row sum is above its limit just where E is.
+// Row 16: the file holds a starting distribution, and its weights do not sum to 1,000,000.
+fn misweighted(file: &[u8]) -> bool
+    requires { ⌜ Framed (now file) ⌝ }
+    ensures { λ r. ⌜ r ≡ misweighted (modelOf (now (file .entry))) ⌝ }
+{
+    if reader::distributions(file) == 0 {
+        return false;
+    }
+    reader::weight_sum(file) != ALL_WEIGHT
+}
+
+// Rows 7, 8, 16 and 9 to 11: the quantities. Some row sum is above its limit just where E is.
 fn judge_quantities(file: &[u8], times: &[u32]) -> Rated
     requires { ⌜ Framed (now file) ⌝ }
     ensures { λ r. ⌜ ratedAs r ≡ firstHeld (quantities (modelOf (now (file .entry))) (now (times .entry))) (uniformRate (modelOf (now (file .entry)))) ⌝ }
@@ -95,6 +124,9 @@ fn judge_quantities(file: &[u8], times: &[u32]) -> Rated
     }
     if starts_at_zero(times) {
         return Rated::Refused(8);
+    }
+    if misweighted(file) {
+        return Rated::Refused(16);
     }
     let most = reader::max_reward(file);
     if most > MOST_REWARD {
@@ -111,11 +143,12 @@ fn judge_quantities(file: &[u8], times: &[u32]) -> Rated
     Rated::Rate(rate)
 }
 
-// Rows 1 to 11, of a file lent with a list of times. A call without one lends an empty list.
-pub fn judge_model(file: &[u8], times: &[u32]) -> Rated
-    ensures { λ r. ⌜ ratedAs r ≡ firstHeld (framing (now (file .entry)) ++ quantities (modelOf (now (file .entry))) (now (times .entry))) (uniformRate (modelOf (now (file .entry)))) ⌝ }
+// Rows 1 to 11 and 16, of a file lent with a list of times, by a call that admits the versions from low to
+// high. A call without a list lends an empty one.
+pub fn judge_model(file: &[u8], low: u64, high: u64, times: &[u32]) -> Rated
+    ensures { λ r. ⌜ ratedAs r ≡ firstHeld (framing low high (now (file .entry)) ++ quantities (modelOf (now (file .entry))) (now (times .entry))) (uniformRate (modelOf (now (file .entry)))) ⌝ }
 {
-    let framing = judge_framing(file);
+    let framing = judge_framing(file, low, high);
     match framing {
         Judgement::Refused(k) => Rated::Refused(k),
         Judgement::Accepted => judge_quantities(file, times),
@@ -123,53 +156,44 @@ pub fn judge_model(file: &[u8], times: &[u32]) -> Rated
 }
 
 // Row 12, for one time: E × T is above its limit.
-pub fn too_many_jumps(rate: u64, time: u32) -> bool
-    requires { ⌜ rate < 2 ^ 32 ⌝ }
-    ensures { λ r. ⌜ r ≡ tooManyJumps rate time ⌝ }
-{
-    reader::jump_millionths(rate, time) > MOST_JUMPS
-}
-
-// Row 12, alone.
 fn judge_jumps(rate: u64, time: u32) -> Judgement
     requires { ⌜ rate < 2 ^ 32 ⌝ }
     ensures { λ r. ⌜ verdict r ≡ judgedBy (jumps rate time) ⌝ }
 {
-    if too_many_jumps(rate, time) {
+    if reader::jump_millionths(rate, time) > MOST_JUMPS {
         return Judgement::Refused(12);
     }
     Judgement::Accepted
 }
 
-// Rows 1 to 12, the last at the file's own time.
-pub fn judge_file(file: &[u8]) -> Judgement
-    ensures { λ r. ⌜ verdict r ≡ fileJudgement (now (file .entry)) ⌝ }
+// Rows 1 to 12 and 16, of a file at its own time, by a call that admits the versions from low to high.
+pub fn judge_file(file: &[u8], low: u64, high: u64) -> Judgement
+    ensures { λ r. ⌜ verdict r ≡ fileJudgement low high (now (file .entry)) ⌝ }
 {
-    let model = judge_model(file, &[]);
+    let model = judge_model(file, low, high, &[]);
     match model {
         Rated::Refused(k) => Judgement::Refused(k),
         Rated::Rate(rate) => judge_jumps(rate, reader::time(file)),
     }
 }
 
-// Row 13, for a number of blocks: the room for their moments.
+// Row 13, for a number of blocks: the room for their figures.
 fn judge_room(file: &[u8], blocks: usize, cells: usize) -> Judgement
     requires { ⌜ Framed (now file) × (highestMoment (now file) ≤ 8) × (blocks ≤ 8) ⌝ }
     ensures { λ r. ⌜ verdict r ≡ judgedBy (room (blocks * blockSize (now (file .entry))) cells) ⌝ }
 {
-    let block = reader::state_count(file) * reader::highest_moment(file);
-    if cells < blocks * block {
+    if cells < blocks * reader::block_size(file) {
         return Judgement::Refused(13);
     }
     Judgement::Accepted
 }
 
-// The number of the first row that holds, for a file lent with so many answer cells; accepted where
-// none does. One block is asked for.
+// The number of the first row that holds, for a file of either version lent with so many answer cells;
+// accepted where none does. One block is asked for.
 pub fn judge(file: &[u8], cells: usize) -> Judgement
     ensures { λ r. ⌜ verdict r ≡ judgement (now (file .entry)) cells ⌝ }
 {
-    let alone = judge_file(file);
+    let alone = judge_file(file, 1, 2);
     match alone {
         Judgement::Refused(k) => Judgement::Refused(k),
         Judgement::Accepted => judge_room(file, 1, cells),
@@ -201,8 +225,9 @@ fn judge_times(file: &[u8], rate: u64, times: &[u32], levels: usize, cells: usiz
     if falls(times) {
         return Judgement::Refused(15);
     }
-    if too_many_jumps(rate, times[count - 1]) {
-        return Judgement::Refused(12);
+    let jumps = judge_jumps(rate, times[count - 1]);
+    if let Judgement::Refused(k) = jumps {
+        return Judgement::Refused(k);
     }
     let room = judge_room(file, count, cells);
     if let Judgement::Refused(k) = room {
@@ -214,12 +239,12 @@ fn judge_times(file: &[u8], rate: u64, times: &[u32], levels: usize, cells: usiz
     Judgement::Accepted
 }
 
-// The number of the first row that holds, for a file and a list of times lent with so many level cells and
-// answer cells; accepted where none does.
+// The number of the first row that holds, for a file of either version and a list of times, lent with so
+// many level cells and answer cells; accepted where none does.
 pub fn judge_series(file: &[u8], times: &[u32], levels: usize, cells: usize) -> Judgement
     ensures { λ r. ⌜ verdict r ≡ seriesJudgement (now (file .entry)) (now (times .entry)) levels cells ⌝ }
 {
-    let model = judge_model(file, times);
+    let model = judge_model(file, 1, 2, times);
     match model {
         Rated::Refused(row) => Judgement::Refused(row),
         Rated::Rate(rate) => judge_times(file, rate, times, levels, cells),

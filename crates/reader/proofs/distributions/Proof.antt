@@ -7,10 +7,10 @@ use Rattle.reader.proofs.distributions.Statement.{statement}
 use Rattle.reader.proofs.distributions.Tie as tie
 
 returns : tie.Need-returns
-returns c = (omega (arith, version-2 (c .before .before .before .args .file .now) (omega (arith, c .before .version .ensures, c .if1))), omega arith)
+returns c = omega (arith, version-2 (c .before .before .before .args .file .now) (omega (arith, c .before .version .ensures, c .if1)))
 
 returns-2 : tie.Need-returns-2
-returns-2 c = (omega (arith, other-version (c .before .before .before .args .file .now) (λ e. omega (arith, e, c .before .version .ensures, c .if1))), omega arith)
+returns-2 c = omega (arith, other-version (c .before .before .before .args .file .now) (λ e. omega (arith, e, c .before .version .ensures, c .if1)))
 
 pub distributions-spec : {M : Type 1} → statement M
 distributions-spec = tie.close (tie.spec (λ c κs. search needs) returns returns-2)

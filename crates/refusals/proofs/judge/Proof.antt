@@ -11,7 +11,7 @@ use Rattle.refusals.proofs.judge.Tie as tie
 judge-room-requires : tie.Need-judge-room-requires
 judge-room-requires c κs =
     let s = c .before .before .before .before .args .file .now in
-    let model = accepted-model s (sym (c .before .before .judge-file .ensures) ∙ ap verdict (c .enum-told .given .1)) in
+    let model = accepted-model 1 2 s (sym (c .before .before .judge-file .ensures) ∙ ap verdict (c .enum-told .given .1)) in
     (model .framed, model .limits .highest-max, omega arith)
 
 returns : tie.Need-returns

@@ -1,4 +1,4 @@
--- `refusals::judge_quantities` meets its contract: rows 7 to 11. Past a row's test the rows after it answer. Assumes nothing.
+-- `refusals::judge_quantities` meets its contract: rows 7, 8, 16 and 9 to 11. Past a row's test the rows after it answer. Assumes nothing.
 use Prim.Native.Nat.{ℕ}
 use mathlib.Core.Path.{_≡_, _∙_, sym, ap}
 use mathlib.Core.Bool.{Bool, _||_}
@@ -38,10 +38,13 @@ start8-file c = start7 (c .before .before)
 abbrev start8 : tie.Else3 → tie.Start
 start8 c = start8-file (c .before .before)
 
-abbrev start9 : tie.Else4 → tie.Start
-start9 c = start8 (c .before .before)
+abbrev start16 : tie.Else4 → tie.Start
+start16 c = start8 (c .before .before)
 
-abbrev start10 : tie.Else5 → tie.Start
+abbrev start9 : tie.Else5 → tie.Start
+start9 c = start16 (c .before .before)
+
+abbrev start10 : tie.Else6 → tie.Start
 start10 c = start9 (c .before)
 
 past-7 : (c : tie.Else1) → Left (start7 c) 1
@@ -58,11 +61,15 @@ past-8 c =
     let before = c .before .before in
     past-7 (before .before .before) ∙ row-passes 8 _ _ _ (list-alone before ∙ sym (c .before .starts-at-zero .ensures) ∙ c .if3 .left)
 
-past-9 : (c : tie.Else4) → Left (start9 c) 3
+past-16 : (c : tie.Else4) → Left (start16 c) 3
 unfolding quantities
-past-9 c = past-8 (c .before .before) ∙ row-passes 9 _ _ _ (rewards-within (file (start9 c)) (omega arith))
+past-16 c = past-8 (c .before .before) ∙ row-passes 16 _ _ _ (sym (c .before .misweighted .ensures) ∙ c .if4 .left)
 
-past-10 : (c : tie.Else5) → Left (start10 c) 4
+past-9 : (c : tie.Else5) → Left (start9 c) 4
+unfolding quantities
+past-9 c = past-16 (c .before .before) ∙ row-passes 9 _ _ _ (rewards-within (file (start9 c)) (omega arith))
+
+past-10 : (c : tie.Else6) → Left (start10 c) 5
 unfolding quantities
 past-10 c = past-9 (c .before) ∙ row-passes 10 _ _ _ (some-reward (file (start10 c)) (omega arith))
 
@@ -86,21 +93,25 @@ returns-3 c =
 
 returns-4 : tie.Need-returns-4
 unfolding quantities
-returns-4 c = sym (past-8 (c .before .before) ∙ row-stops 9 _ _ _ (rewards-over (file (start8 (c .before .before))) (omega arith)))
+returns-4 c = sym (past-8 (c .before .before) ∙ row-stops 16 _ _ _ (sym (c .before .misweighted .ensures) ∙ c .if4 .taken))
 
 returns-5 : tie.Need-returns-5
 unfolding quantities
-returns-5 c = sym (past-9 (c .before) ∙ row-stops 10 _ _ _ (no-reward (file (start9 (c .before))) (omega arith)))
+returns-5 c = sym (past-16 (c .before .before) ∙ row-stops 9 _ _ _ (rewards-over (file (start16 (c .before .before))) (omega arith)))
 
 returns-6 : tie.Need-returns-6
 unfolding quantities
-returns-6 c =
-    let s = file (start10 (c .before .before .before .before)) in
-    sym (past-10 (c .before .before .before .before) ∙ row-stops 11 _ _ _ (sums-over s (omega arith)))
+returns-6 c = sym (past-9 (c .before) ∙ row-stops 10 _ _ _ (no-reward (file (start9 (c .before))) (omega arith)))
 
 returns-7 : tie.Need-returns-7
 unfolding quantities
 returns-7 c =
+    let s = file (start10 (c .before .before .before .before)) in
+    sym (past-10 (c .before .before .before .before) ∙ row-stops 11 _ _ _ (sums-over s (omega arith)))
+
+returns-8 : tie.Need-returns-8
+unfolding quantities
+returns-8 c =
     let s = file (start10 (c .before .before .before .before)) in
     sym
     (past-10 (c .before .before .before .before)
@@ -121,8 +132,10 @@ judge-quantities-spec =
     returns-3
     (λ c κs. search needs)
     returns-4
+    (λ c κs. search needs)
     returns-5
-    (λ c κs. search needs)
-    (λ c κs. search needs)
     returns-6
-    returns-7)
+    (λ c κs. search needs)
+    (λ c κs. search needs)
+    returns-7
+    returns-8)

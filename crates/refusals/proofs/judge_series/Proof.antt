@@ -24,7 +24,7 @@ same s times E levels cells e l c = rw (e, l, c) refl
 told : (c : tie.After-known-told2) → Rateable (c .before .before .before .before .before .before .args .file .now) (c .before .model2 .given .0 .0)
 told c =
     let start = c .before .before .before .before .before .before in
-    rateable _ (start .args .times .now) _ (sym (c .before .before .before .judge-model .ensures) ∙ ap ratedAs (c .before .model2 .given .1))
+    rateable 1 2 _ (start .args .times .now) _ (sym (c .before .before .before .judge-model .ensures) ∙ ap ratedAs (c .before .model2 .given .1))
 
 judge-times-requires : tie.Need-judge-times-requires
 judge-times-requires c κs =

@@ -6,9 +6,9 @@ use mathlib.Core.List.{List, _++_}
 use native.Mathlib.Omega.{arith}
 use lib.ListN.{length, drop}
 use borrow.Author.Needs.{needs}
-use Rattle.definitions.specs.Rules.{Answer, refused, Rows, outside, listing, lastTime, tooManyJumps, jumps, room, blockSize, judgedBy, verdict}
+use Rattle.definitions.specs.Rules.{Answer, refused, Rows, outside, listing, lastTime, jumps, room, blockSize, judgedBy, verdict}
 use Rattle.laws.specs.RuleLaws.{row-stops, row-passes, andThen, in-parts}
-use Rattle.laws.specs.RowLaws.{in-range, same-test, same-room, too-few, enough}
+use Rattle.laws.specs.RowLaws.{in-range, same-jumps, same-room, too-few, enough}
 use Rattle.refusals.proofs.judge_times.Statement.{statement}
 use Rattle.refusals.proofs.judge_times.Tie as tie
 
@@ -30,18 +30,18 @@ listed start = listing (times start) ++ jumps (start .args .rate) (lastTime (tim
 abbrev Left : tie.Start → ℕ → Type 0
 Left start k = judgedBy (listed start) ≡ judgedBy (drop k (listed start))
 
--- from the place past a row's test, and past the room, back to the start
+-- from the place past a row's test, and past the jumps and the room, back to the start
 abbrev start14 : tie.Else1 → tie.Start
 start14 c = c .before .before .before .before
 
 abbrev start15 : tie.Else2 → tie.Start
 start15 c = start14 (c .before .before)
 
-abbrev start12 : tie.Else3 → tie.Start
-start12 c = start15 (c .before .before .before)
+abbrev start12 : tie.After-judge-jumps → tie.Start
+start12 c = start15 (c .before .before)
 
 abbrev start-room : tie.After-judge-room → tie.Start
-start-room c = start12 (c .before)
+start-room c = start12 (c .before .before .before)
 
 -- past its test there are 1 to 8 times
 counted : (c : tie.Else1) → outside (length (times (start14 c))) 8 ≡ false
@@ -55,30 +55,38 @@ past-15 : (c : tie.Else2) → Left (start15 c) 2
 unfolding listing
 past-15 c = past-14 (c .before .before) ∙ row-passes 15 _ _ _ (sym (c .before .falls .ensures) ∙ c .if2 .left)
 
--- row 12 is tested on the last time
-tested-12 : (c : tie.After-too-many-jumps) →
-    let start = start15 (c .before .before) in
-    c .too-many-jumps .result ≡ tooManyJumps (start .args .rate) (lastTime (times start))
-tested-12 c =
-    let start = start15 (c .before .before) in
-    c .too-many-jumps .ensures ∙ same-test (start .args .rate) (lastTime (times start)) (omega arith)
-
-past-12 : (c : tie.Else3) → Left (start12 c) 3
-unfolding listing jumps
-past-12 c = past-15 (c .before .before .before) ∙ row-passes 12 _ _ _ (sym (tested-12 (c .before)) ∙ c .if3 .left)
-
 count : (c : tie.Else1) → (1 ≤ length (times (start14 c))) × (length (times (start14 c)) ≤ 8)
 count c = in-range (length (times (start14 c))) 8 (counted c)
 
--- past the jumps the room for the blocks answers, and where it accepts, that for the levels
+-- the rows in parts: the jumps, then the room for the blocks, then that for the levels
+past-15-parts : (c : tie.Else2) →
+    let start = start15 c in
+    judgedBy (listed start) ≡ andThen (andThen (judgedBy (jumps (start .args .rate) (lastTime (times start)))) (judgedBy (blocks start))) (judgedBy (levels start))
+unfolding listing
+past-15-parts c =
+    let start = start15 c in
+    let X : Rows = jumps (start .args .rate) (lastTime (times start)) in
+    past-15 c
+    ∙ in-parts (X ++ blocks start) (levels start) tt tt
+    ∙ ap (λ (a : Answer (Unit {0})). andThen a (judgedBy (levels start))) (in-parts X (blocks start) tt tt)
+
+-- row 12 is judged on the last time
+past-12 : (c : tie.After-judge-jumps) →
+    let start = start12 c in
+    judgedBy (listed start) ≡ andThen (andThen (verdict (c .judge-jumps .result)) (judgedBy (blocks start))) (judgedBy (levels start))
+past-12 c =
+    let start = start12 c in
+    let given = c .judge-jumps .ensures ∙ same-jumps (start .args .rate) (lastTime (times start)) (omega arith) (omega arith) in
+    past-15-parts (c .before .before)
+    ∙ ap (λ (a : Answer (Unit {0})). andThen (andThen a (judgedBy (blocks start))) (judgedBy (levels start))) (sym given)
+
+-- past it the room for the blocks answers, and where it accepts, that for the levels
 past-rows : (c : tie.After-judge-room) → judgedBy (listed (start-room c)) ≡ andThen (verdict (c .judge-room .result)) (judgedBy (levels (start-room c)))
-unfolding listing jumps
 past-rows c =
     let start = start-room c in
     let given = c .judge-room .ensures ∙ same-room (length (times start) * blockSize (start .args .file .now)) (start .args .cells) (omega arith) (omega arith) in
-    past-12 (c .before)
-    ∙ in-parts (blocks start) (levels start) tt tt
-    ∙ ap (λ (a : Answer (Unit {0})). andThen a (judgedBy (levels start))) (sym given)
+    past-12 (c .before .before .before)
+    ∙ rw (c .before .enum-told .given .1) (ap (λ (a : Answer (Unit {0})). andThen a (judgedBy (levels start))) (sym given))
 
 returns : tie.Need-returns
 unfolding listing
@@ -92,13 +100,12 @@ unfolding listing
 returns-2 c = sym (past-14 (c .before .before) ∙ row-stops 15 _ _ _ (sym (c .before .falls .ensures) ∙ c .if2 .taken))
 
 returns-3 : tie.Need-returns-3
-unfolding listing jumps
-returns-3 c = sym (past-15 (c .before .before .before) ∙ row-stops 12 _ _ _ (sym (tested-12 (c .before)) ∙ c .if3 .taken))
+returns-3 c = sym (past-12 (c .before .before .before) ∙ rw (c .before .jumps .given .1) refl)
 
 judge-room-requires : tie.Need-judge-room-requires
 judge-room-requires c κs =
-    let start = start12 c in
-    (start .pre .0, start .pre .1, omega (arith, count (c .before .before .before .before .before)))
+    let start = start12 (c .before .before) in
+    (start .pre .0, start .pre .1, omega (arith, count (c .before .before .before .before .before .before)))
 
 returns-4 : tie.Need-returns-4
 returns-4 c = sym (past-rows (c .before .before .before) ∙ rw (c .before .room .given .1) refl)
@@ -107,13 +114,13 @@ returns-5 : tie.Need-returns-5
 returns-5 c =
     let after = c .before .before .before in
     let start = start-room after in
-    sym (past-rows after ∙ rw (c .before .enum-told .given .1) (too-few (length (times start)) (start .args .levels) (omega arith)))
+    sym (past-rows after ∙ rw (c .before .enum-told2 .given .1) (too-few (length (times start)) (start .args .levels) (omega arith)))
 
 returns-6 : tie.Need-returns-6
 returns-6 c =
     let after = c .before .before .before in
     let start = start-room after in
-    sym (past-rows after ∙ rw (c .before .enum-told .given .1) (enough (length (times start)) (start .args .levels) (omega arith)))
+    sym (past-rows after ∙ rw (c .before .enum-told2 .given .1) (enough (length (times start)) (start .args .levels) (omega arith)))
 
 pub judge-times-spec : {M : Type 1} → statement M
 judge-times-spec =
@@ -127,7 +134,9 @@ judge-times-spec =
     (λ c. search needs)
     (λ c. omega (arith, count (c .before .before .before)))
     (λ c κs. omega arith)
+    (λ c. search needs)
     returns-3
+    (λ c. search needs)
     judge-room-requires
     (λ c. search needs)
     returns-4
