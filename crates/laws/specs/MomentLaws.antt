@@ -13,7 +13,7 @@ use Rattle.definitions.specs.Vectors.{ONE}
 use Rattle.definitions.specs.Weights.{mode, weight, weightSum}
 use Rattle.definitions.specs.Moment.{term, weighted, lastQuotient, weightedMean, moment, startFigure, cellOf, figureOf, cell, modelLevel, outcome}
 use Rattle.definitions.specs.Rules.{Answer, accepted, refused, rows, judgement}
-use Rattle.laws.specs.Rounding.{quotient-at-most, quotient-below, remainder-below, row-of-place, place-in-row, place-below}
+use Rattle.laws.specs.Rounding.{quotient-at-most, quotient-below, quotient-unique, remainder-below, remainder-unique, row-of-place, place-in-row, place-below}
 use Rattle.laws.specs.Nearest.{nearest-within, nearest-at-most, nearest-up, nearest-down, nearest-rounds}
 use Rattle.laws.specs.SumLaws.{sum-mono}
 use Rattle.laws.specs.RuleLaws.{accepted-is-no-refusal, other-value}
@@ -80,6 +80,12 @@ last-up A S pos h = nearest-up (A * ONE) S pos h
 pub last-down : (A S : ℕ) → 2 * (A * ONE % S) < S → lastQuotient A S ≡ A * ONE / S
 unfolding lastQuotient
 last-down A S h = nearest-down (A * ONE) S h
+
+-- of no sum it is 0
+pub last-none : (S : ℕ) → 0 < S → lastQuotient 0 S ≡ 0
+last-none S pos =
+    let none : 0 * ONE % S ≡ 0 = remainder-unique (0 * ONE) S 0 0 pos (omega arith) in
+    last-down 0 S (omega (arith, none)) ∙ quotient-unique (0 * ONE) S 0 0 pos (omega arith)
 
 pub last-rounds : (A S : ℕ) → 0 < S → Rounds (A * ONE) S (lastQuotient A S) (A * ONE % S)
 unfolding lastQuotient

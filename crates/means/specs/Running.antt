@@ -1,7 +1,7 @@
 -- The running sums A of all cells, and what the functions that make them need.
 use mathlib.Core.List.{List, []}
 use Prim.Native.Nat.{ℕ, _+_, _*_, _/_, _%_, _≤_, _<_, _^_, min}
-use lib.Dec.{leb}
+use lib.Dec.{leb, ltb}
 use lib.ListN.{length, getD, drop}
 use Rattle.definitions.specs.declared.Sizes.{Sizes}
 use Rattle.definitions.specs.Sums.{sum, blocks, pick}
@@ -24,14 +24,23 @@ rowFrom w k = drop (k * LEVELS) w
 abbrev pub termAt : List ℕ → ℕ → ℕ → ℕ → ℕ
 termAt row n level u = pick (leb n level) (term (getD row n 0) u) 0
 
+-- x in cell e of a block, where that is one of the count cells of the states, and 0 in the cells past them, which are for the start
+abbrev pub ofStates : ℕ → ℕ → ℕ → ℕ
+ofStates count e x = pick (ltb e count) x 0
+
 -- the first n terms of A, for the state and the r of cell k
 unfoldable pub partSum : Chain → List ℕ → ℕ → ℕ → ℕ → ℕ
-partSum ch row R n k = sum n (λ j. term (getD row j 0) (U ch j (k % R + 1) (k / R)))
+partSum ch row R n k = sum n (λ j. ofStates (ch .states * R) k (term (getD row j 0) (U ch j (k % R + 1) (k / R))))
 
--- the sums in all blocks after the first n values of n: block k has as many terms, but none past its level
-unfoldable pub partSums : Chain → List ℕ → List ℕ → ℕ → ℕ → List ℕ → List ℕ
-partSums ch levels w R n cells =
-    blocks (ch .states * R) (length levels) (λ k. partSum ch (rowFrom w k) R (min n (getD levels k 0 + 1))) cells
+-- the sums in all blocks of B cells after the first n values of n: block k has as many terms, but none past its level
+unfoldable pub partSums : Chain → ℕ → List ℕ → List ℕ → ℕ → ℕ → List ℕ → List ℕ
+partSums ch B levels w R n cells =
+    blocks B (length levels) (λ k. partSum ch (rowFrom w k) R (min n (getD levels k 0 + 1))) cells
+
+-- a block has a cell for each r of each state, and at most 520
+pub record Fitting (z : Sizes) : Type 0 where
+  pub states-in : z .states * z .highest ≤ z .block
+  pub block-max : z .block ≤ 520
 
 -- the terms of one n, with the weight w, may be added to the sums in the cells
 pub record Addable (z : Sizes) (w : ℕ) (cells : List ℕ) (table : List (List ℕ)) : Type 0 where
@@ -45,7 +54,8 @@ pub record Addable (z : Sizes) (w : ℕ) (cells : List ℕ) (table : List (List 
 
 -- the terms of n may be added to the sums in all blocks
 pub record AllAddable (z : Sizes) (n : ℕ) (levels w cells : List ℕ) (table : List (List ℕ)) : Type 0 where
-  pub enough : length levels * (z .states * z .highest) ≤ length cells
+  pub fitting : Fitting z
+  pub enough : length levels * z .block ≤ length cells
   pub rows : length levels * LEVELS ≤ length w
   pub count-max : length levels ≤ 8
   pub states-max : z .states ≤ 64
@@ -54,7 +64,7 @@ pub record AllAddable (z : Sizes) (n : ℕ) (levels w cells : List ℕ) (table :
   pub level-max : (k : ℕ) → k < length levels → getD levels k 0 < LEVELS
   pub weight-max : (k : ℕ) → k < length levels → n ≤ getD levels k 0 → getD (rowFrom w k) n 0 ≤ GREATEST
   pub ticks-max : (k : ℕ) → k < z .states * z .highest → inTable table (z .highest) k ≤ ONE
-  pub room : (k e : ℕ) → k < length levels → e < z .states * z .highest → getD cells (k * (z .states * z .highest) + e) 0 ≤ 1000 * GREATEST
+  pub room : (k e : ℕ) → k < length levels → e < z .states * z .highest → getD cells (k * z .block + e) 0 ≤ 1000 * GREATEST
 
 -- the sums in the first cells may be divided by S
 pub record Divisible (cells : List ℕ) (S count : ℕ) : Type 0 where
@@ -67,7 +77,7 @@ pub record Divisible (cells : List ℕ) (S count : ℕ) : Type 0 where
 pub record AllDivisible (cells totals : List ℕ) (size : ℕ) : Type 0 where
   pub enough : length totals * size ≤ length cells
   pub count-max : length totals ≤ 8
-  pub size-max : size ≤ 512
+  pub size-max : size ≤ 520
   pub total-pos : (k : ℕ) → k < length totals → 0 < getD totals k 0
   pub total-max : (k : ℕ) → k < length totals → getD totals k 0 < 2 ^ 62
   pub below : (k c : ℕ) → k < length totals → c < size → getD cells (k * size + c) 0 ≤ getD totals k 0
@@ -75,6 +85,7 @@ pub record AllDivisible (cells totals : List ℕ) (size : ℕ) : Type 0 where
 -- what the sums are made from: the arrays of a chain, and for each level a row of weights
 pub record Summable (z : Sizes) (c f levels w : List ℕ) : Type 0 where
   pub ready : Ready z c f
+  pub fitting : Fitting z
   pub highest-pos : 1 ≤ z .highest
   pub highest-max : z .highest ≤ 8
   pub count-max : length levels ≤ 8

@@ -1,7 +1,7 @@
 -- The levels, the weights and the moments of a chain that stands in arrays, for a list of expected jump counts and one tolerance.
 use mathlib.Core.List.{List}
 use mathlib.Core.Path.{_≡_}
-use Prim.Native.Nat.{ℕ, _+_, _/_, _%_, _≤_, _<_}
+use Prim.Native.Nat.{ℕ, _+_, _*_, _/_, _%_, _≤_, _<_}
 use lib.ListN.{length, getD}
 use Rattle.definitions.specs.declared.Sizes.{Sizes}
 use Rattle.definitions.specs.Sums.{largest, over}
@@ -11,7 +11,7 @@ use Rattle.definitions.specs.Weights.{weight, weightSum}
 use Rattle.definitions.specs.Level.{level}
 use Rattle.definitions.specs.Moment.{weightedMean}
 use Rattle.vectors.specs.Ready.{Ready}
-use Rattle.means.specs.Running.{rowFrom}
+use Rattle.means.specs.Running.{rowFrom, ofStates, Fitting}
 
 -- the limits of document 01, of a list of X and ε, and at most 8 X
 pub record Truncatable (xs : List ℕ) (ε : ℕ) : Type 0 where
@@ -39,9 +39,9 @@ pub record Truncations (xs : List ℕ) (ε top : ℕ) (before levels totals w : 
   pub are-totals : (k : ℕ) → k < length xs → getD totals k 0 ≡ totalOf xs ε k
   pub rows : (k : ℕ) → k < length xs → RowHolds xs ε w k
 
--- what stands in cell k: the weighted mean of U(n,r) at i, for the state i and the r of the cell
+-- what stands in cell k: the weighted mean of U(n,r) at i, for the state i and the r of the cell; past the states 0
 unfoldable pub cellMean : Chain → ℕ → ℕ → ℕ → ℕ → ℕ
-cellMean ch X R N k = weightedMean X (λ n. U ch n (k % R + 1) (k / R)) N
+cellMean ch X R N k = ofStates (ch .states * R) k (weightedMean X (λ n. U ch n (k % R + 1) (k / R)) N)
 
 -- what stands in cell c of block k: that of X number k, at its level
 abbrev pub meansOf : Chain → List ℕ → ℕ → ℕ → ℕ → ℕ → ℕ
@@ -50,6 +50,7 @@ meansOf ch xs ε R k = cellMean ch (getD xs k 0) R (levelOf xs ε k)
 -- the limits of document 01, of a chain in arrays, a list of X, and ε
 pub record Solvable (z : Sizes) (c f xs : List ℕ) (ε : ℕ) : Type 0 where
   pub ready : Ready z c f
+  pub fitting : Fitting z
   pub highest-pos : 1 ≤ z .highest
   pub highest-max : z .highest ≤ 8
   pub truncatable : Truncatable xs ε

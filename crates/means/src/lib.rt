@@ -1,5 +1,6 @@
 // The weighted means of the vectors of a chain that stands in arrays, for a list of expected jump counts X: a level for
-// each X, and a block of M × R cells with its moments. The vectors are computed once for all of them.
+// each X, and a block of cells that starts with its M × R moments. The vectors are computed once for all of them. The
+// cells of a block past the moments are 0.
 //
 // The sums A stand in the cells until they are divided. The weights of X number k are row k of what is lent, LEVELS
 // entries long.
@@ -12,7 +13,7 @@ ghost use Rattle.definitions.specs.Chain.{arrays};
 ghost use Rattle.definitions.specs.Vectors.{ONE};
 ghost use Rattle.definitions.specs.Moment.{term, lastQuotient};
 ghost use Rattle.laws.specs.LevelLaws.{LEVELS};
-ghost use Rattle.means.specs.Running.{inTable, rowFrom, termAt, partSums, Topmost, Addable, AllAddable, Summable, Divisible, AllDivisible};
+ghost use Rattle.means.specs.Running.{inTable, rowFrom, termAt, ofStates, partSums, Topmost, Addable, AllAddable, Summable, Divisible, AllDivisible};
 ghost use Rattle.means.specs.Solving.{Truncatable, Truncations, levelOf, meansOf, Solvable};
 use definitions::MOST_TIMES;
 use definitions::ONE;
@@ -86,9 +87,9 @@ fn add_to_blocks(
     cells: &mut [u64],
 )
     requires { ⌜ AllAddable sizes n (now levels) (now weights) (now cells) (now table) ⌝ }
-    ensures { λ r. ⌜ now (cells .exit) ≡ blocks (sizes .states * sizes .highest) (length (now (levels .entry))) (λ k e. getD (now (cells .entry)) (k * (sizes .states * sizes .highest) + e) 0 + termAt (rowFrom (now (weights .entry)) k) n (getD (now (levels .entry)) k 0) (inTable (now (table .entry)) (sizes .highest) e)) (now (cells .entry)) ⌝ }
+    ensures { λ r. ⌜ now (cells .exit) ≡ blocks (sizes .block) (length (now (levels .entry))) (λ k e. getD (now (cells .entry)) (k * sizes .block + e) 0 + ofStates (sizes .states * sizes .highest) e (termAt (rowFrom (now (weights .entry)) k) n (getD (now (levels .entry)) k 0) (inTable (now (table .entry)) (sizes .highest) e))) (now (cells .entry)) ⌝ }
 {
-    let block = sizes.states * sizes.highest;
+    let block = sizes.block;
     let count = levels.len();
     for k in 0..count {
         let row = &weights[k * poisson::LEVELS..];
@@ -107,13 +108,13 @@ fn accumulate(
     weights: &[u64],
     cells: &mut [u64],
 )
-    requires { ⌜ Summable sizes (now chain) (now rewards) (now levels) (now weights) × Topmost largest (now levels) × (length (now levels) * (sizes .states * sizes .highest) ≤ length (now cells)) ⌝ }
-    ensures { λ r. ⌜ now (cells .exit) ≡ partSums (arrays sizes (now (chain .entry)) (now (rewards .entry))) (now (levels .entry)) (now (weights .entry)) (sizes .highest) (largest + 1) (now (cells .entry)) ⌝ }
+    requires { ⌜ Summable sizes (now chain) (now rewards) (now levels) (now weights) × Topmost largest (now levels) × (length (now levels) * sizes .block ≤ length (now cells)) ⌝ }
+    ensures { λ r. ⌜ now (cells .exit) ≡ partSums (arrays sizes (now (chain .entry)) (now (rewards .entry))) (sizes .block) (now (levels .entry)) (now (weights .entry)) (sizes .highest) (largest + 1) (now (cells .entry)) ⌝ }
 {
     let zeros = [0u64; 64];
     let mut table = [zeros; 9];
     vectors::first_table(sizes, rewards, &mut table);
-    clear(levels.len() * (sizes.states * sizes.highest), cells);
+    clear(levels.len() * sizes.block, cells);
     add_to_blocks(sizes, 0, levels, weights, &table, cells);
     let mut n: u64 = 0;
     while n < largest {
@@ -200,9 +201,9 @@ pub fn solve(
     cells: &mut [u64],
 )
     requires { ⌜ Solvable sizes (now chain) (now rewards) (now xs) tolerance ⌝ }
-    requires { ⌜ (length (now xs) * LEVELS ≤ length (now weights)) × (length (now xs) ≤ length (now levels)) × (length (now xs) * (sizes .states * sizes .highest) ≤ length (now cells)) ⌝ }
+    requires { ⌜ (length (now xs) * LEVELS ≤ length (now weights)) × (length (now xs) ≤ length (now levels)) × (length (now xs) * sizes .block ≤ length (now cells)) ⌝ }
     ensures levels { λ r. ⌜ now (levels .exit) ≡ over (length (now (xs .entry))) (levelOf (now (xs .entry)) tolerance) (now (levels .entry)) ⌝ }
-    ensures cells { λ r. ⌜ now (cells .exit) ≡ blocks (sizes .states * sizes .highest) (length (now (xs .entry))) (meansOf (arrays sizes (now (chain .entry)) (now (rewards .entry))) (now (xs .entry)) tolerance (sizes .highest)) (now (cells .entry)) ⌝ }
+    ensures cells { λ r. ⌜ now (cells .exit) ≡ blocks (sizes .block) (length (now (xs .entry))) (meansOf (arrays sizes (now (chain .entry)) (now (rewards .entry))) (now (xs .entry)) tolerance (sizes .highest)) (now (cells .entry)) ⌝ }
 {
     let count = xs.len();
     let mut totals = [0u64; MOST_TIMES];
@@ -216,5 +217,5 @@ pub fn solve(
         weights,
         cells,
     );
-    divide_blocks(&totals[..count], sizes.states * sizes.highest, cells);
+    divide_blocks(&totals[..count], sizes.block, cells);
 }

@@ -7,7 +7,6 @@ use mathlib.Core.Path.{_≡_, refl, sym, _∙_, ap}
 use lib.ListN.{length}
 use Rattle.definitions.specs.Chain.{Chain, arrays}
 use Rattle.laws.specs.ArrayLaws.{zeros}
-use Rattle.laws.specs.MomentLaws.{count-max}
 use Rattle.vectors.specs.Table.{blank, tableOf}
 use Rattle.means.specs.Running.{partSums}
 use Rattle.means.specs.RunningLaws.{length-sums, sums-none, sums-again, may-add, added}
@@ -16,7 +15,7 @@ use Rattle.means.proofs.accumulate.Tie as tie
 
 abbrev Inv-loop : tie.InvT-loop
 Inv-loop sizes chain rewards levels largest weights cells₀ table₀ n₀ cells table n =
-    (n ≤ largest) × (table ≡ tableOf (arrays sizes chain rewards) (sizes .highest) n) × (cells ≡ partSums (arrays sizes chain rewards) levels weights (sizes .highest) (n + 1) cells₀)
+    (n ≤ largest) × (table ≡ tableOf (arrays sizes chain rewards) (sizes .highest) n) × (cells ≡ partSums (arrays sizes chain rewards) (sizes .block) levels weights (sizes .highest) (n + 1) cells₀)
 
 abbrev μ-loop : tie.MeasureT-loop
 μ-loop sizes chain rewards levels largest weights cells₀ table₀ n₀ cells table n = largest - n
@@ -27,11 +26,9 @@ first-table-requires c κs =
     let start = c .before .before .before .before .before in
     (start .pre .0 .ready .rewards, start .pre .0 .highest-max, refl)
 
--- all cells of a block, and of all blocks
-blocks-max : (c : tie.Start Inv-loop μ-loop) → let block = c .args .sizes .states * c .args .sizes .highest in (block ≤ 512) × (length (c .args .levels .now) * block ≤ 8 * 512)
-blocks-max c =
-    let block = count-max (c .args .sizes .states) (c .args .sizes .highest) (c .pre .0 .ready .rewards .states-max) (c .pre .0 .highest-max) in
-    (block, mul-le-mul {n₂ = 8} {m₂ = 512} (c .pre .0 .count-max) block)
+-- the cells of all blocks
+blocks-max : (c : tie.Start Inv-loop μ-loop) → length (c .args .levels .now) * c .args .sizes .block ≤ 8 * 520
+blocks-max c = mul-le-mul {n₂ = 8} {m₂ = 520} (c .pre .0 .count-max) (c .pre .0 .fitting .block-max)
 
 -- the blocks that are cleared lie in the cells
 clear-requires : tie.Need-clear-requires Inv-loop μ-loop
@@ -40,7 +37,7 @@ clear-requires c κs = omega (arith, c .before .before .before .before .before .
 add-requires : tie.Need-add-to-blocks-requires Inv-loop μ-loop
 add-requires c κs =
     let start = c .before .before .before .before .before .before .before .before .before .before .before .before .before in
-    may-add (start .args .sizes) _ _ _ _ (start .pre .0) (start .args .cells .now) (start .pre .2) 0 _ _ (c .before .before .before .before .clear .ensures ∙ sums-none _ _ _ _ _ (start .pre .2) _ (omega arith)) (c .before .before .before .before .before .before .before .first-table .ensures (start .args .chain .now))
+    may-add (start .args .sizes) _ _ _ _ (start .pre .0) (start .args .cells .now) (start .pre .2) 0 _ _ (c .before .before .before .before .clear .ensures ∙ sums-none _ _ _ _ _ _ (start .pre .2) _ (omega arith)) (c .before .before .before .before .before .before .before .first-table .ensures (start .args .chain .now))
 
 -- where the loop begins the sums have the terms of n = 0
 module _ (b : tie.After-slice-known3 Inv-loop μ-loop) where
@@ -51,7 +48,7 @@ module _ (b : tie.After-slice-known3 Inv-loop μ-loop) where
   ch = arrays (start .args .sizes) (start .args .chain .now) (start .args .rewards .now)
 
   abbrev sums : ℕ → List ℕ → List ℕ
-  sums n l = partSums ch (start .args .levels .now) (start .args .weights .now) (start .args .sizes .highest) n l
+  sums n l = partSums ch (start .args .sizes .block) (start .args .levels .now) (start .args .weights .now) (start .args .sizes .highest) n l
 
   abbrev first : List ℕ
   first = b .before .before .add-to-blocks .last .1 .1 .1 .1 .1 .0
@@ -60,14 +57,14 @@ module _ (b : tie.After-slice-known3 Inv-loop μ-loop) where
   table = b .before .before .before .before .before .before .before .before .before .before .first-table .ensures (start .args .chain .now)
 
   begun : first ≡ sums 1 (start .args .cells .now)
-  begun = added (start .args .sizes) _ _ _ _ (start .pre .0) (start .args .cells .now) (start .pre .2) 0 _ _ _ (b .before .before .before .before .before .before .before .clear .ensures ∙ sums-none _ _ _ _ _ (start .pre .2) _ (omega arith)) table (b .before .before .add-to-blocks .ensures)
+  begun = added (start .args .sizes) _ _ _ _ (start .pre .0) (start .args .cells .now) (start .pre .2) 0 _ _ _ (b .before .before .before .before .before .before .before .clear .ensures ∙ sums-none _ _ _ _ _ _ (start .pre .2) _ (omega arith)) table (b .before .before .add-to-blocks .ensures)
 
   -- over them it does not matter what stood in the cells before
   again : (n : ℕ) → sums n first ≡ sums n (start .args .cells .now)
-  again n = sums-again ch _ _ _ (start .args .cells .now) (start .pre .2) 1 n first begun
+  again n = sums-again ch _ _ _ _ (start .args .cells .now) (start .pre .2) 1 n first begun
 
-  enough : length (start .args .levels .now) * (start .args .sizes .states * start .args .sizes .highest) ≤ length first
-  enough = omega (arith, ap (length {A = ℕ}) begun, length-sums ch (start .args .levels .now) (start .args .weights .now) (start .args .sizes .highest) (start .args .cells .now) (start .pre .2) 1, start .pre .2)
+  enough : length (start .args .levels .now) * start .args .sizes .block ≤ length first
+  enough = omega (arith, ap (length {A = ℕ}) begun, length-sums ch (start .args .sizes .block) (start .args .levels .now) (start .args .weights .now) (start .args .sizes .highest) (start .args .cells .now) (start .pre .2) 1, start .pre .2)
 
 loop-holds : tie.Need-loop-holds Inv-loop μ-loop
 loop-holds c = (omega arith, table c, begun c ∙ sym (again c 1))
@@ -102,7 +99,7 @@ all c =
 same-length : tie.Need-same-length Inv-loop μ-loop
 same-length c =
     let b = c .before .before in
-    ap (length {A = ℕ}) (all c) ∙ length-sums (ch b) _ _ _ (start b .args .cells .now) (start b .pre .2) (start b .args .largest + 1)
+    ap (length {A = ℕ}) (all c) ∙ length-sums (ch b) _ _ _ _ (start b .args .cells .now) (start b .pre .2) (start b .args .largest + 1)
 
 pub accumulate-spec : {M : Type 1} → statement M
 accumulate-spec =
@@ -111,8 +108,7 @@ accumulate-spec =
     Inv-loop
     μ-loop
     first-table-requires
-    (λ c. omega (arith, blocks-max (c .before .before .before .before .before .before .before) .0))
-    (λ c. omega (arith, blocks-max (c .before .before .before .before .before .before .before) .1))
+    (λ c. omega (arith, blocks-max (c .before .before .before .before .before .before .before)))
     clear-requires
     add-requires
     loop-holds

@@ -23,7 +23,7 @@ abbrev μ-loop : tie.MeasureT-loop
 μ-loop w table cells₀ highest count i₀ r₀ k₀ cells i r k = count - k
 
 small : (c : tie.Start Inv-loop μ-loop) → c .args .sizes .states * c .args .sizes .highest ≤ 512
-small c = count-max (c .args .sizes .states) (c .args .sizes .highest) (c .pre .states-max) (c .pre .highest-max)
+small c = count-max (c .args .sizes .states) (c .args .sizes .highest) 64 (c .pre .states-max) (c .pre .highest-max)
 
 loop-holds : tie.Need-loop-holds Inv-loop μ-loop
 loop-holds c =

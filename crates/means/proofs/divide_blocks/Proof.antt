@@ -32,8 +32,8 @@ module _ (c : tie.In-loop Inv-loop μ-loop) where
   block-room : k * size + size ≤ length (c .before .loop .cells)
   block-room = omega (arith, block-end k (length (start .args .totals .now)) size (c .loop-test .taken), start .pre .enough, c .before .loop .inv .2)
 
-  small : k * size ≤ 8 * 512
-  small = mul-le-mul {n₂ = 8} {m₂ = 512} (omega (arith, c .loop-test .taken, start .pre .count-max)) (start .pre .size-max)
+  small : k * size ≤ 8 * 520
+  small = mul-le-mul {n₂ = 8} {m₂ = 520} (omega (arith, c .loop-test .taken, start .pre .count-max)) (start .pre .size-max)
 
   -- what is lent of the cells
   abbrev entries : ℕ

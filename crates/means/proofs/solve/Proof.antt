@@ -5,7 +5,6 @@ use mathlib.Core.Path.{sym, _∙_}
 use lib.ListN.{length}
 use lib.Seq.{length-take-le}
 use borrow.Author.Needs.{needs}
-use Rattle.laws.specs.MomentLaws.{count-max}
 use Rattle.means.specs.SolvingLaws.{topmost, summable, used-room, divisible, means-are}
 use Rattle.means.proofs.solve.Statement.{statement}
 use Rattle.means.proofs.solve.Tie as tie
@@ -31,16 +30,16 @@ accumulate-requires c κs =
 
 divide-requires : tie.Need-divide-blocks-requires
 divide-requires c κs =
-    let d = c .before .before .before .before .before .before .before .before .before .before .before .before .before .before in
+    let d = c .before .before .before .before .before .before .before .before .before .before .before .before .before in
     let begin = start d in
-    divisible _ _ _ _ _ (begin .pre .0) _ _ _ _ _ (d .truncate-each .ensures) (begin .pre .1 .1) (begin .args .cells .now) (begin .pre .1 .2) (totals-held d) _ (c .before .before .before .before .before .accumulate .ensures)
+    divisible _ _ _ _ _ (begin .pre .0) _ _ _ _ _ (d .truncate-each .ensures) (begin .pre .1 .1) (begin .args .cells .now) (begin .pre .1 .2) (totals-held d) _ (c .before .before .before .before .accumulate .ensures)
 
 returns : tie.Need-returns
 returns c =
-    let d = c .before .before .before .before .before .before .before .before .before .before .before .before .before .before .before .before .before in
+    let d = c .before .before .before .before .before .before .before .before .before .before .before .before .before .before .before .before in
     let begin = start d in
     let cut = d .truncate-each .ensures in
-    (cut .are-levels, c .before .before .divide-blocks .ensures ∙ means-are _ _ _ _ _ (begin .pre .0) _ _ _ _ _ cut (begin .pre .1 .1) (begin .args .cells .now) (begin .pre .1 .2) (totals-held d) _ (c .before .before .before .before .before .before .before .before .accumulate .ensures))
+    (cut .are-levels, c .before .before .divide-blocks .ensures ∙ means-are _ _ _ _ _ (begin .pre .0) _ _ _ _ _ cut (begin .pre .1 .1) (begin .args .cells .now) (begin .pre .1 .2) (totals-held d) _ (c .before .before .before .before .before .before .before .accumulate .ensures))
 
 pub solve-spec : {M : Type 1} → statement M
 solve-spec =
@@ -53,7 +52,6 @@ solve-spec =
     accumulate-requires
     (λ c. totals-held (c .before .before .before .before .before .before .before .before .before .before .before))
     (λ c. sym (length-take-le _ _ (totals-held (c .before .before .before .before .before .before .before .before .before .before .before .before))))
-    (λ c. let begin = start (c .before .before .before .before .before .before .before .before .before .before .before .before .before) in omega (arith, count-max (begin .args .sizes .states) (begin .args .sizes .highest) (begin .pre .0 .ready .rewards .states-max) (begin .pre .0 .highest-max)))
     divide-requires
     (λ c. search needs)
     (λ c. search needs)
