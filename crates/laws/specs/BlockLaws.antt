@@ -8,8 +8,8 @@ use mathlib.Core.List.{List, [], _∷_, _++_, append-assoc, append-nil}
 use lib.ListN.{length, getD, take, drop, length-take, length-drop, take-append-drop}
 use lib.Seq.{take-at, drop-at, drop-drop, drop-append-le, getD-take, getD-drop, ext-getD, length-take-le}
 use Rattle.definitions.specs.Sums.{firsts, over, blocks}
-use Rattle.laws.specs.Rounding.{quotient-below, remainder-below, row-of-place, place-in-row, place-below}
-use Rattle.laws.specs.ListLaws.{length-firsts, firsts-same, length-over, getD-over, getD-over-past, over-none, over-same, over-again}
+use Rattle.laws.specs.Rounding.{quotient-below, quotient-remainder, remainder-below, row-of-place, place-in-row, place-below}
+use Rattle.laws.specs.ListLaws.{length-firsts, firsts-same, length-over, getD-over, getD-over-past, over-none, over-same, over-kept, over-again}
 
 -- the blocks up to block k end by the end of all blocks
 pub block-end : (k count size : ℕ) → k < count → k * size + size ≤ count * size
@@ -78,6 +78,12 @@ module _ {A : Type 0} where
         -- where there is a place there is a size
         some : (p : ℕ) → p < count * size → 1 ≤ size
         some p h = elim (decLt 0 size) [ yes pos ↦ pos | no q ↦ absurd (let none : size ≡ 0 = omega (arith, q) in omega (arith, rw none at h)) ]
+
+    -- where f agrees with the list, filling the blocks changes nothing
+    pub blocks-kept : (d : A) (count : ℕ) (f : ℕ → ℕ → A) (l : List A) → count * size ≤ length l → ((k c : ℕ) → k < count → c < size → f k c ≡ getD l (k * size + c) d) → blocks size count f l ≡ l
+    blocks-kept d count f l room same =
+        blocks-same count f (λ k c. getD l (k * size + c) d) l same
+        ∙ (unfold blocks in over-kept d (count * size) _ l room (λ p h. ap (λ (i : ℕ). getD l i d) (quotient-remainder p size)))
 
     -- the next block filled: one turn of every loop that fills a list block by block
     blocks-store : (k : ℕ) (f : ℕ → ℕ → A) (g : ℕ → A) (l now : List A) → now ≡ blocks size k f l → ((c : ℕ) → c < size → g c ≡ f k c) → take (k * size) now ++ over size g (drop (k * size) now) ≡ blocks size (k + 1) f l

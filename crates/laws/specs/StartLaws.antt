@@ -4,7 +4,7 @@ use Prim.Native.Nat.{ℕ, zero, suc, _+_, _*_, _/_, _≤_, _<_}
 use native.Mathlib.Omega.{arith}
 use native.Mathlib.Nat.{mul-pos, mul-le-mul-left, mul-le-mul-right, le-of-mul-le-mul-right}
 use native.Mathlib.Decide.{ℕ-discrete}
-use mathlib.Core.Path.{_≡_, refl, sym, _∙_, ap}
+use mathlib.Core.Path.{_≡_, refl, sym, _∙_, ap, ap₂}
 use Rattle.definitions.specs.Sums.{sum}
 use Rattle.definitions.specs.Chain.{Model}
 use Rattle.definitions.specs.Vectors.{ONE}
@@ -45,6 +45,11 @@ module _ (M : ℕ) (a p : ℕ → ℕ) where
   mean-max k whole-weight most =
       quotient-at-most (sum M (λ i. a i * p i)) k MILLION
       (omega (arith, sum-mono M (λ i. a i * p i) (λ i. a i * k) (λ i l. mul-le-mul-left (a i) (most i l)), sum-times M k a, ap (λ (x : ℕ). x * k) whole-weight))
+
+-- equal weights and equal numbers have equal means
+pub mean-same : (M : ℕ) (a b p q : ℕ → ℕ) → ((i : ℕ) → i < M → a i ≡ b i) → ((i : ℕ) → i < M → p i ≡ q i) → startMean M a p ≡ startMean M b q
+unfolding startMean
+mean-same M a b p q weights numbers = ap (λ (n : ℕ). n / MILLION) (sum-same M (λ i. a i * p i) (λ i. b i * q i) (λ i l. ap₂ _*_ (weights i l) (numbers i l)))
 
 -- with all weight on state i the start figure is that state's moment
 pub start-of-one : (m : Model) (N r i : ℕ) → i < m .states → m .start i ≡ MILLION → ((j : ℕ) → j < m .states → (j ≡ i → ⊥) → m .start j ≡ 0) → startFigure m N r ≡ moment m N r i

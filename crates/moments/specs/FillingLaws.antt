@@ -1,43 +1,50 @@
 -- The solution of what was read of an accepted file and list is the file's levels and blocks.
 use mathlib.Core.List.{List, [], _∷_}
-use mathlib.Core.Path.{_≡_, sym, _∙_, ap, ap₂}
-use Prim.Native.Nat.{ℕ, suc, _+_, _*_, _/_, _%_, _≤_, _<_}
+use mathlib.Core.Path.{_≡_, refl, sym, _∙_, ap, ap₂}
+use Prim.Native.Nat.{ℕ, suc, _+_, _*_, _-_, _/_, _%_, _≤_, _<_}
+use native.Mathlib.Nat.{mul-le-mul-right}
 use native.Mathlib.Omega.{arith}
+use native.Mathlib.Decide.{decLt}
 use lib.ListN.{length, getD}
+use borrow.Author.Tests.{lt-ltb, le-ltb}
 use Rattle.definitions.specs.declared.Sizes.{Sizes}
 use Rattle.definitions.specs.Sums.{over, blocks}
 use Rattle.definitions.specs.File.{timeField}
-use Rattle.definitions.specs.Chain.{Model, Chain, modelOf, atTime, arrays, chainOf, uniformRate, jumpMillionths}
+use Rattle.definitions.specs.Chain.{Model, Chain, modelOf, atTime, arrays, chainOf, uniformRate, jumpMillionths, sizesOf}
 use Rattle.definitions.specs.Vectors.{U}
 use Rattle.definitions.specs.Weights.{weight, weightSum}
 use Rattle.definitions.specs.Level.{level}
 use Rattle.definitions.specs.Rules.{accepted, blockSize}
-use Rattle.definitions.specs.Moment.{term, weighted, lastQuotient, weightedMean, moment, cell, modelLevel, cellsAfter}
+use Rattle.definitions.specs.Moment.{term, weighted, lastQuotient, weightedMean, moment, startFigure, figureOf, cell, modelLevel, cellsAfter}
 use Rattle.definitions.specs.Series.{modelAt, levelAt, levelsAfter, blocksAfter}
+use Rattle.laws.specs.Rounding.{row-of-place, place-in-row, place-below}
 use Rattle.laws.specs.SumLaws.{sum-same}
 use Rattle.laws.specs.ListLaws.{getD-over, over-same}
-use Rattle.laws.specs.BlockLaws.{blocks-same, blocks-one}
-use Rattle.laws.specs.ChainLaws.{arrays-same, rate-at, chain-at, sizes-at}
+use Rattle.laws.specs.BlockLaws.{length-blocks, getD-blocks, blocks-same, blocks-again, blocks-kept, blocks-one}
+use Rattle.laws.specs.ChainLaws.{distributions-max, arrays-same, rate-at, chain-at}
 use Rattle.laws.specs.VectorLaws.{U-same}
-use Rattle.laws.specs.MomentLaws.{state-of-cell}
-use Rattle.laws.specs.Acceptance.{WithinLimits, AcceptedSeries}
-use Rattle.vectors.specs.Ready.{Ready}
-use Rattle.vectors.specs.ModelLaws.{held, model-ready}
+use Rattle.laws.specs.MomentLaws.{state-of-cell, figure-of-state, figure-of-start}
+use Rattle.laws.specs.StartLaws.{mean-same}
+use Rattle.laws.specs.Demand3.{moment-max}
+use Rattle.laws.specs.Acceptance.{WithinLimits, AcceptedSeries, block-max}
+use Rattle.vectors.specs.ModelLaws.{held, held-ready}
+use Rattle.means.specs.RunningLaws.{in-states}
 use Rattle.means.specs.Solving.{levelOf, cellMean, meansOf, Solvable}
-use Rattle.moments.specs.Filling.{ReadAs}
+use Rattle.moments.specs.Filling.{ReadAs, withStart, started, Startable}
 
 -- equal values up to N have equal weighted means
-mean-same : (X N : ℕ) (u v : ℕ → ℕ) → ((n : ℕ) → n ≤ N → u n ≡ v n) → weightedMean X u N ≡ weightedMean X v N
+mean-same-at : (X N : ℕ) (u v : ℕ → ℕ) → ((n : ℕ) → n ≤ N → u n ≡ v n) → weightedMean X u N ≡ weightedMean X v N
 unfolding weightedMean weighted
-mean-same X N u v h =
+mean-same-at X N u v h =
     ap (λ (a : ℕ). lastQuotient a (weightSum X N))
     (sum-same (suc N) (λ n. term (weight X n) (u n)) (λ n. term (weight X n) (v n)) (λ n l. ap (term (weight X n)) (h n (omega arith))))
 
--- a cell's mean from the arrays of a model's chain is the model's moment, at any time
-cell-at : (m : Model) (l : List ℕ) (T N e : ℕ) → m .states ≤ 64 → e < m .states * m .highest → cellMean (held m l) (uniformRate m * T) (m .highest) N e ≡ cell (atTime m T) N e
-unfolding cellMean cell moment jumpMillionths
+-- in a state's cell, the mean from the arrays of a model's chain is the model's moment, at any time
+cell-at : (m : Model) (l : List ℕ) (T N e : ℕ) → m .states ≤ 64 → e < m .states * m .highest → cellMean (held m l) (uniformRate m * T) (m .highest) N e ≡ moment (atTime m T) N (e % m .highest + 1) (e / m .highest)
+unfolding cellMean moment jumpMillionths
 cell-at m l T N e h b =
-    mean-same (uniformRate m * T) N _ _
+    in-states (m .states * m .highest) e _ b
+    ∙ mean-same-at (uniformRate m * T) N _ _
     (λ n low. U-same (held m l) (chainOf m) (arrays-same m l h) n (e % m .highest + 1) (e / m .highest) (state-of-cell e (m .states) (m .highest) b))
     ∙ ap₂ (λ (E : ℕ) (ch : Chain). weightedMean (E * T) (λ n. U ch n (e % m .highest + 1) (e / m .highest)) N) (sym (rate-at m T)) (sym (chain-at m T))
 
@@ -50,9 +57,6 @@ module _ (s times : List ℕ) (levels cells : ℕ) (g : AcceptedSeries s times l
   first : WithinLimits (modelAt s times 0)
   first = g .limits 0 (omega (arith, g .count-min))
 
-  ready : Ready z c f
-  ready = rw (e .held .sizes, e .held .entries, e .held .rewards) (rw (sizes-at m (getD times 0 0), chain-at m (getD times 0 0)) at (model-ready (modelAt s times 0) l first (e .held .room)))
-
   is-jumps : (k : ℕ) → k < length times → getD xs k 0 ≡ jumpMillionths (modelAt s times k)
   unfolding jumpMillionths
   is-jumps k h = e .jumps k h ∙ ap (λ (E : ℕ). E * getD times k 0) (sym (rate-at m (getD times k 0)))
@@ -61,7 +65,8 @@ module _ (s times : List ℕ) (levels cells : ℕ) (g : AcceptedSeries s times l
   pub solvable : Solvable z c f xs ε
   solvable =
       record {
-        ready = ready;
+        ready = held-ready m (getD times 0 0) (e .held) first;
+        fitting = rw (e .held .sizes) (record { states-in = omega arith; block-max = block-max s (g .framed) (first .highest-max) });
         highest-pos = rw (e .held .sizes) (first .highest-pos);
         highest-max = rw (e .held .sizes) (first .highest-max);
         truncatable = record {
@@ -73,7 +78,7 @@ module _ (s times : List ℕ) (levels cells : ℕ) (g : AcceptedSeries s times l
       }
 
   -- in the cells that are lent
-  pub block-room : length xs * (z .states * z .highest) ≤ cells
+  pub block-room : length xs * z .block ≤ cells
   block-room = rw (e .count, e .held .sizes) (g .block-room)
 
   level-is : (k : ℕ) → k < length times → levelOf xs ε k ≡ levelAt s times k
@@ -85,15 +90,58 @@ module _ (s times : List ℕ) (levels cells : ℕ) (g : AcceptedSeries s times l
   unfolding levelsAfter
   levels-are before = rw (e .count) (over-same (length times) (levelOf xs ε) (levelAt s times) before level-is)
 
-  -- and blocks
-  pub blocks-are : (before : List ℕ) → blocks (z .states * z .highest) (length xs) (meansOf (arrays z c f) xs ε (z .highest)) before ≡ blocksAfter (accepted tt) s times before
-  unfolding blocksAfter
-  blocks-are before =
-      rw (e .count, e .held .sizes, e .held .entries, e .held .rewards)
-      (blocks-same (blockSize s) (length times) _ _ before
-      (λ k i hk hi.
-      ap₂ (λ (X N : ℕ). cellMean (held m l) X (m .highest) N i) (e .jumps k hk) (level-is k hk)
-      ∙ cell-at m l (getD times k 0) (levelAt s times k) i (first .states-max) hi))
+  -- and moments, in the cells of the states
+  module _ (before : List ℕ) (room : length times * blockSize s ≤ length before) (now : List ℕ) (solved : now ≡ blocks (z .block) (length xs) (meansOf (arrays z c f) xs ε (z .highest)) before) where
+    moment-in : (k i : ℕ) → k < length times → i < m .states * m .highest → getD now (k * blockSize s + i) 0 ≡ moment (modelAt s times k) (levelAt s times k) (i % m .highest + 1) (i / m .highest)
+    moment-in k i hk hi =
+        ap (λ (x : List ℕ). getD x (k * blockSize s + i) 0) (rw (e .count, e .held .sizes, e .held .entries, e .held .rewards) at solved)
+        ∙ getD-blocks (blockSize s) 0 (length times) _ before k i hk (omega arith)
+        ∙ ap₂ (λ (X N : ℕ). cellMean (held m l) X (m .highest) N i) (e .jumps k hk) (level-is k hk)
+        ∙ cell-at m l (getD times k 0) (levelAt s times k) i (first .states-max) hi
+
+    -- ready for the start figures
+    pub startable : Startable s (getD times 0 0) z (length times) now
+    startable =
+        record {
+          framed = g .framed;
+          limits = first;
+          sizes = e .held .sizes;
+          count-max = g .count-max;
+          room = rw (e .held .sizes) (omega (arith, room, ap length (rw (e .count, e .held .sizes) at solved), length-blocks (blockSize s) (length times) (meansOf (arrays (sizesOf m) c f) xs ε (m .highest)) before room));
+          most = rw (e .held .sizes) (λ k i hk hi. rw (moment-in k i hk hi) (unfold levelAt in moment-max (modelAt s times k) (g .limits k hk) (i % m .highest + 1) (i / m .highest) (state-of-cell i (m .states) (m .highest) hi)));
+        }
+
+    -- a cell with its start figure is the file's
+    cell-is : (k i : ℕ) → k < length times → i < blockSize s → withStart m (λ j. getD now (k * blockSize s + j) 0) i ≡ cell (modelAt s times k) (levelAt s times k) i
+    unfolding cell startFigure
+    cell-is k i hk hi =
+        elim (decLt i (m .states * m .highest)) [
+          | yes h ↦
+              rw (lt-ltb i (m .states * m .highest) h) (moment-in k i hk h)
+              ∙ sym (figure-of-state (modelAt s times k) (levelAt s times k) (i % m .highest + 1) (i / m .highest) (state-of-cell i (m .states) (m .highest) h))
+          | no q ↦ past (omega (arith, q))
+        ]
+      where
+        past : m .states * m .highest ≤ i → withStart m (λ j. getD now (k * blockSize s + j) 0) i ≡ figureOf (modelAt s times k) (levelAt s times k) (i % m .highest + 1) (i / m .highest)
+        past low =
+            let M = m .states in
+            let R = m .highest in
+            let r : ℕ = i - M * R in
+            let small : r < R = omega (arith, low, hi, mul-le-mul-right R (distributions-max s)) in
+            let split : i ≡ M * R + r = omega (arith, low) in
+            let row : i / R ≡ M = ap (λ (n : ℕ). n / R) split ∙ row-of-place M r R small in
+            let place : i % R ≡ r = ap (λ (n : ℕ). n % R) split ∙ place-in-row M r R small in
+            rw (le-ltb i (M * R) low)
+            (mean-same M (m .start) (m .start) _ (moment (modelAt s times k) (levelAt s times k) (i % R + 1)) (λ j hj. refl)
+            (λ j hj. moment-in k (j * R + r) hk (place-below j r M R hj small) ∙ ap₂ (λ (a b : ℕ). moment (modelAt s times k) (levelAt s times k) (a + 1) b) (place-in-row j r R small ∙ sym place) (row-of-place j r R small))
+            ∙ sym (figure-of-start (modelAt s times k) (levelAt s times k) (i % R + 1) (i / R) (omega (arith, row))))
+
+    -- and so are the blocks
+    pub blocks-are : started m (blockSize s) (length times) now ≡ blocksAfter (accepted tt) s times before
+    unfolding started blocksAfter
+    blocks-are =
+        blocks-again (blockSize s) 0 (length times) _ _ before now room (rw (e .count, e .held .sizes) at solved)
+        ∙ blocks-same (blockSize s) (length times) _ _ before cell-is
 
 -- the file's own time as a list of one: level 0 is the file's, and the one block has its moments
 module _ (s : List ℕ) where

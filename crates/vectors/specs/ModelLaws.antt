@@ -6,10 +6,10 @@ use native.Mathlib.Omega.{arith}
 use lib.ListN.{length}
 use Rattle.definitions.specs.declared.Sizes.{Sizes}
 use Rattle.definitions.specs.Sums.{sum}
-use Rattle.definitions.specs.Chain.{Model, Chain, chainOf, padded, flatEntry, flat, arrays, sizesOf}
+use Rattle.definitions.specs.Chain.{Model, Chain, atTime, chainOf, padded, flatEntry, flat, arrays, sizesOf}
 use Rattle.laws.specs.SumLaws.{sum-same}
 use Rattle.laws.specs.ListLaws.{length-over}
-use Rattle.laws.specs.ChainLaws.{SameChain, arrays-same}
+use Rattle.laws.specs.ChainLaws.{SameChain, arrays-same, chain-at, sizes-at}
 use Rattle.laws.specs.VectorLaws.{Stochastic}
 use Rattle.laws.specs.Acceptance.{WithinLimits, stochastic}
 use Rattle.vectors.specs.Ready.{Ready}
@@ -36,7 +36,7 @@ pub record Held (m : Model) (z : Sizes) (l c f : List ℕ) : Type 0 where
   pub entries : c ≡ flat (chainOf m) l
   pub rewards : f ≡ padded (m .states) (m .reward)
 
-pub model-ready : (m : Model) (l : List ℕ) → WithinLimits m → m .states * m .states ≤ length l → Ready (sizesOf m) (flat (chainOf m) l) (padded (m .states) (m .reward))
+model-ready : (m : Model) (l : List ℕ) → WithinLimits m → m .states * m .states ≤ length l → Ready (sizesOf m) (flat (chainOf m) l) (padded (m .states) (m .reward))
 unfolding flat
 model-ready m l limits room =
     let range : Stochastic (held m l) = stochastic-same (held m l) (chainOf m) (arrays-same m l (limits .states-max)) (stochastic m) in
@@ -53,9 +53,9 @@ model-ready m l limits room =
       stochastic = range;
     }
 
--- they are ready for the steps
-pub held-ready : (m : Model) {z : Sizes} {l c f : List ℕ} → Held m z l c f → WithinLimits m → Ready z c f
-held-ready m {l = l} h limits = rw (h .sizes, h .entries, h .rewards) (model-ready m l limits (h .room))
+-- they are ready for the steps, where the model is within its limits at some time: the time has no part in them
+pub held-ready : (m : Model) (T : ℕ) {z : Sizes} {l c f : List ℕ} → Held m z l c f → WithinLimits (atTime m T) → Ready z c f
+held-ready m T {l = l} h limits = rw (h .sizes, h .entries, h .rewards) (rw (sizes-at m T, chain-at m T) at (model-ready (atTime m T) l limits (h .room)))
 
 -- and what they hold is the model's chain
 pub held-same : (m : Model) {z : Sizes} {l c f : List ℕ} → Held m z l c f → m .states ≤ 64 → SameChain (arrays z c f) (chainOf m)

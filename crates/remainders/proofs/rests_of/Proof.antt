@@ -54,7 +54,7 @@ rests-at-requires c κs =
     let highest : start c .args .sizes .highest ≡ m c .highest = ap (λ (z : Sizes). z .highest) (read c .sizes) in
     let states : start c .args .sizes .states ≡ m c .states = ap (λ (z : Sizes). z .states) (read c .sizes) in
     record {
-      ready = held-ready (m c) (read c) limits;
+      ready = held-ready (m c) (m c .time) (read c) limits;
       highest-max = omega (arith, highest, limits .highest-max);
       jumps-min = within .jumps-min;
       jumps-max = omega (arith, within .jumps-max, level-max (jumpMillionths (m c)) (m c .tolerance) (limits .jumps-max) (limits .tolerance-pos));
