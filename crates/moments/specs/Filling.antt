@@ -5,11 +5,13 @@ use Prim.Native.Nat.{ℕ, _+_, _*_, _-_, _≤_, _<_}
 use lib.Dec.{ltb}
 use lib.ListN.{length, getD}
 use Rattle.definitions.specs.declared.Sizes.{Sizes}
-use Rattle.definitions.specs.Sums.{blocks, pick}
-use Rattle.definitions.specs.Chain.{Model, modelOf, atTime, uniformRate, sizesOf}
+use Rattle.definitions.specs.Sums.{sum, blocks, pick}
+use Rattle.definitions.specs.File.{stateCount, highestMoment, distributions, weightField}
+use Rattle.definitions.specs.Chain.{Model, modelOf, uniformRate, sizesOf}
 use Rattle.definitions.specs.Vectors.{ONE}
+use Rattle.definitions.specs.Weights.{MILLION}
 use Rattle.definitions.specs.Moment.{startMean}
-use Rattle.laws.specs.Acceptance.{Framed, WithinLimits}
+use Rattle.laws.specs.Acceptance.{Framed}
 use Rattle.vectors.specs.ModelLaws.{Held}
 
 -- the arrays and numbers that were read are those of a model, its chain in the place of the first entries of l, with X of each time
@@ -28,10 +30,11 @@ withStart m block e =
 unfoldable pub started : Model → ℕ → ℕ → List ℕ → List ℕ
 started m B count cells = blocks B count (λ k. withStart m (λ e. getD cells (k * B + e) 0)) cells
 
--- the moments of so many times stand in the cells
-pub record Startable (s : List ℕ) (T : ℕ) (z : Sizes) (count : ℕ) (cells : List ℕ) : Type 0 where
+-- the moments of so many times stand in the cells, and the starting weights, where there are some, sum to 1,000,000
+pub record Startable (s : List ℕ) (z : Sizes) (count : ℕ) (cells : List ℕ) : Type 0 where
   pub framed : Framed s
-  pub limits : WithinLimits (atTime (modelOf s) T)
+  pub highest-max : highestMoment s ≤ 8
+  pub full : 0 < distributions s → sum (stateCount s) (weightField s) ≡ MILLION
   pub sizes : z ≡ sizesOf (modelOf s)
   pub count-max : count ≤ 8
   pub room : count * z .block ≤ length cells

@@ -5,12 +5,13 @@ use Prim.Native.Nat.{ℕ, suc, _+_, _*_, _-_, _/_, _%_, _≤_, _<_}
 use native.Mathlib.Nat.{mul-le-mul-right}
 use native.Mathlib.Omega.{arith}
 use native.Mathlib.Decide.{decLt}
+use lib.Dec.{ltb}
 use lib.ListN.{length, getD}
 use borrow.Author.Tests.{lt-ltb, le-ltb}
 use Rattle.definitions.specs.declared.Sizes.{Sizes}
-use Rattle.definitions.specs.Sums.{over, blocks}
-use Rattle.definitions.specs.File.{timeField}
-use Rattle.definitions.specs.Chain.{Model, Chain, modelOf, atTime, arrays, chainOf, uniformRate, jumpMillionths, sizesOf}
+use Rattle.definitions.specs.Sums.{over, blocks, pick}
+use Rattle.definitions.specs.File.{stateCount, highestMoment, timeField, distributions, weightField}
+use Rattle.definitions.specs.Chain.{Model, Chain, modelOf, atTime, arrays, chainOf, uniformRate, jumpMillionths, padded, sizesOf}
 use Rattle.definitions.specs.Vectors.{U}
 use Rattle.definitions.specs.Weights.{weight, weightSum}
 use Rattle.definitions.specs.Level.{level}
@@ -19,15 +20,17 @@ use Rattle.definitions.specs.Moment.{term, weighted, lastQuotient, weightedMean
 use Rattle.definitions.specs.Series.{modelAt, levelAt, levelsAfter, blocksAfter}
 use Rattle.laws.specs.Rounding.{row-of-place, place-in-row, place-below}
 use Rattle.laws.specs.SumLaws.{sum-same}
+use Rattle.laws.specs.ArrayLaws.{entryOf}
 use Rattle.laws.specs.ListLaws.{getD-over, over-same}
 use Rattle.laws.specs.BlockLaws.{length-blocks, getD-blocks, blocks-same, blocks-again, blocks-kept, blocks-one}
-use Rattle.laws.specs.ChainLaws.{distributions-max, arrays-same, rate-at, chain-at}
+use Rattle.laws.specs.ChainLaws.{distributions-max, getD-padded, arrays-same, rate-at, chain-at}
 use Rattle.laws.specs.VectorLaws.{U-same}
 use Rattle.laws.specs.MomentLaws.{state-of-cell, figure-of-state, figure-of-start}
 use Rattle.laws.specs.StartLaws.{mean-same}
 use Rattle.laws.specs.Demand3.{moment-max}
 use Rattle.laws.specs.Acceptance.{WithinLimits, AcceptedSeries, block-max}
 use Rattle.vectors.specs.ModelLaws.{held, held-ready}
+use Rattle.start.specs.Figures.{startCell, Distribution, AllMoments}
 use Rattle.means.specs.RunningLaws.{in-states}
 use Rattle.means.specs.Solving.{levelOf, cellMean, meansOf, Solvable}
 use Rattle.moments.specs.Filling.{ReadAs, withStart, started, Startable}
@@ -100,11 +103,12 @@ module _ (s times : List ℕ) (levels cells : ℕ) (g : AcceptedSeries s times l
         ∙ cell-at m l (getD times k 0) (levelAt s times k) i (first .states-max) hi
 
     -- ready for the start figures
-    pub startable : Startable s (getD times 0 0) z (length times) now
+    pub startable : Startable s z (length times) now
     startable =
         record {
           framed = g .framed;
-          limits = first;
+          highest-max = first .highest-max;
+          full = first .weights-sum;
           sizes = e .held .sizes;
           count-max = g .count-max;
           room = rw (e .held .sizes) (omega (arith, room, ap length (rw (e .count, e .held .sizes) at solved), length-blocks (blockSize s) (length times) (meansOf (arrays (sizesOf m) c f) xs ε (m .highest)) before room));
@@ -142,6 +146,50 @@ module _ (s times : List ℕ) (levels cells : ℕ) (g : AcceptedSeries s times l
     blocks-are =
         blocks-again (blockSize s) 0 (length times) _ _ before now room (rw (e .count, e .held .sizes) at solved)
         ∙ blocks-same (blockSize s) (length times) _ _ before cell-is
+
+-- the start figures, of a file that holds a starting distribution, and of one that does not
+module _ (s : List ℕ) (z : Sizes) (count : ℕ) (cells : List ℕ) (g : Startable s z count cells) where
+  abbrev M : ℕ
+  M = stateCount s
+
+  abbrev R : ℕ
+  R = highestMoment s
+
+  -- without one a block has no cells past the moments
+  pub none-started : distributions s ≡ 0 → cells ≡ started (modelOf s) (z .block) count cells
+  unfolding started
+  none-started none =
+      sym
+      (blocks-kept (z .block) 0 count _ cells (g .room)
+      (λ k e hk he. let state : e < M * R = omega (arith, he, ap (λ (x : Sizes). x .block) (g .sizes), ap (λ (d : ℕ). d * R) none) in rw (lt-ltb e (M * R) state) refl))
+
+  module _ (one : distributions s ≡ 1) (weights : List ℕ) (read : weights ≡ padded M (weightField s)) where
+    weight-in : (i : ℕ) → i < M → getD weights i 0 ≡ weightField s i
+    weight-in i l = rw read (getD-padded M (weightField s) i (g .framed .states-max) l)
+
+    pub distribution : Distribution weights (z .states)
+    distribution = rw (g .sizes) (record { states-max = g .framed .states-max; full = sum-same M (entryOf weights) (weightField s) weight-in ∙ g .full (omega (arith, one)) })
+
+    -- with one it has R cells past them
+    whole : z .block ≡ (M + 1) * R
+    whole = ap (λ (x : Sizes). x .block) (g .sizes) ∙ ap (λ (d : ℕ). (M + d) * R) one
+
+    pub all-moments : AllMoments cells (z .states) (z .highest) count
+    all-moments =
+        rw (g .sizes)
+        (record {
+          highest-max = g .highest-max;
+          count-max = g .count-max;
+          room = rw whole at (g .room);
+          most = λ k e hk he. rw whole at (g .most k e hk (rw (g .sizes) he));
+        })
+
+    pub some-started : blocks ((z .states + 1) * z .highest) count (λ k. startCell weights (z .states) (z .highest) (λ e. getD cells (k * ((z .states + 1) * z .highest) + e) 0)) cells ≡ started (modelOf s) (z .block) count cells
+    unfolding started
+    some-started =
+        rw (whole, g .sizes)
+        (blocks-same ((M + 1) * R) count _ _ cells
+        (λ k e hk he. ap (λ (x : ℕ). pick (ltb e (M * R)) (getD cells (k * ((M + 1) * R) + e) 0) x) (mean-same M (entryOf weights) (weightField s) _ _ weight-in (λ i l. refl))))
 
 -- the file's own time as a list of one: level 0 is the file's, and the one block has its moments
 module _ (s : List ℕ) where

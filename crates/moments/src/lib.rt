@@ -1,4 +1,5 @@
-// The moments of the accumulated reward: a file in, the level and the moments out, for its own time or for a list of times.
+// The moments of the accumulated reward: a file in, the level and the moments out, for its own time or for a list of times,
+// and where the file holds a starting distribution, the start figures.
 ghost use mathlib.Core.Path.{_≡_};
 ghost use Prim.Native.Nat.{_*_, _^_, _<_, _≤_};
 ghost use lib.ListN.{length, getD};
@@ -11,10 +12,12 @@ ghost use Rattle.definitions.specs.Promise.{Promised};
 ghost use Rattle.definitions.specs.Series.{seriesAnswer, levelsAfter, blocksAfter, AreRuns, SeriesPromised};
 ghost use Rattle.laws.specs.Acceptance.{AcceptedFile, AcceptedSeries};
 ghost use Rattle.laws.specs.LevelLaws.{LEVELS};
+ghost use Rattle.moments.specs.Filling.{started, Startable};
 use definitions::Judgement;
 use definitions::MOST_TIMES;
 use definitions::Outcome;
 use definitions::Series;
+use definitions::Sizes;
 
 // At most this many states have their chain in a smaller array: a small file does not pay for the clearing
 // of a large one.
@@ -31,8 +34,20 @@ fn write_jumps(rate: u64, times: &[u32], xs: &mut [u64])
     }
 }
 
-// A level and a block of moments for each time of a list, of an accepted file: what it states is read, its chain
-// into the entries that are lent.
+// The start figures after the moments of each block, where the file holds a starting distribution.
+fn put_starts(file: &[u8], sizes: Sizes, count: usize, cells: &mut [u64])
+    requires { ⌜ Startable (now file) sizes count (now cells) ⌝ }
+    ensures { λ r. ⌜ now (cells .exit) ≡ started (modelOf (now (file .entry))) (sizes .block) count (now (cells .entry)) ⌝ }
+{
+    if reader::distributions(file) == 0 {
+        return;
+    }
+    let weights = reader::weights_of(file);
+    start::put_in_blocks(&weights, sizes.states, sizes.highest, count, cells);
+}
+
+// A level and a block for each time of a list, of an accepted file: what it states is read, its chain into the
+// entries that are lent.
 fn fill_with(
     file: &[u8],
     times: &[u32],
@@ -64,6 +79,7 @@ fn fill_with(
         levels,
         cells,
     );
+    put_starts(file, sizes, count, cells);
 }
 
 // The same, with entries enough for the chain.
@@ -82,7 +98,7 @@ fn fill(file: &[u8], times: &[u32], weights: &mut [u64], levels: &mut [u64], cel
     fill_with(file, times, &mut chain, weights, levels, cells);
 }
 
-// The level and the moments for the file's own time: a list of one.
+// The level and the block for the file's own time: a list of one.
 fn fill_own(file: &[u8], cells: &mut [u64]) -> u64
     requires { ⌜ AcceptedFile (now file) (length (now cells)) ⌝ }
     ensures { λ n. ⌜ (n ≡ modelLevel (modelOf (now (file .entry)))) × (now (cells .exit) ≡ cellsAfter (accepted n) (now (file .entry)) (now (cells .entry))) ⌝ }
@@ -95,8 +111,9 @@ fn fill_own(file: &[u8], cells: &mut [u64]) -> u64
 }
 
 // The call: the first row of the table of refusals that holds, with no cell touched; or the level N,
-// with moment r of state i, counted from 1, in cell (i - 1) * R + (r - 1) and the cells past the last
-// moment as they were. The moments are within the tolerance and the rounding of the exact averages.
+// with moment r of state i, counted from 1, in cell (i - 1) * R + (r - 1), and for a file of version 2
+// the start figure for r in cell M * R + (r - 1). The cells past them are as they were. All figures are
+// within the tolerance and the rounding of the exact averages.
 pub fn calculate(file: &[u8], cells: &mut [u64]) -> Outcome
     ensures outcome { λ o. ⌜ answerOf o ≡ outcome (now (file .entry)) (length (now (cells .entry))) ⌝ }
     ensures cells { λ o. ⌜ now (cells .exit) ≡ cellsAfter (answerOf o) (now (file .entry)) (now (cells .entry)) ⌝ }
@@ -109,7 +126,7 @@ pub fn calculate(file: &[u8], cells: &mut [u64]) -> Outcome
     }
 }
 
-// A level and a block of moments for each time of an accepted list.
+// A level and a block for each time of an accepted list.
 fn fill_listed(file: &[u8], times: &[u32], levels: &mut [u64], cells: &mut [u64])
     requires { ⌜ AcceptedSeries (now file) (now times) (length (now levels)) (length (now cells)) ⌝ }
     ensures levels { λ r. ⌜ now (levels .exit) ≡ levelsAfter (accepted tt) (now (file .entry)) (now (times .entry)) (now (levels .entry)) ⌝ }
@@ -120,7 +137,7 @@ fn fill_listed(file: &[u8], times: &[u32], levels: &mut [u64], cells: &mut [u64]
 }
 
 // The call for several times: the first row of its table of refusals that holds, with no level and no cell
-// touched; or acceptance, with the level of time k in level cell k and its moments in block k, in the order of
+// touched; or acceptance, with the level of time k in level cell k and its figures in block k, in the order of
 // `calculate`. Each is what `calculate` gives for the file with that time in the place of its own. The levels
 // past the last time and the cells past the last block are as they were.
 pub fn series(file: &[u8], times: &[u32], levels: &mut [u64], cells: &mut [u64]) -> Series

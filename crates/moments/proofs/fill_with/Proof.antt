@@ -7,10 +7,11 @@ use lib.ListN.{length, getD, take}
 use lib.Seq.{length-take-le, getD-take}
 use Rattle.definitions.specs.declared.Sizes.{Sizes}
 use Rattle.definitions.specs.Chain.{modelOf, uniformRate}
+use Rattle.definitions.specs.Rules.{blockSize}
 use Rattle.laws.specs.ChainLaws.{rate-at}
 use Rattle.laws.specs.ListLaws.{getD-over}
-use Rattle.moments.specs.Filling.{ReadAs}
-use Rattle.moments.specs.FillingLaws.{solvable, block-room, levels-are, blocks-are}
+use Rattle.moments.specs.Filling.{ReadAs, started}
+use Rattle.moments.specs.FillingLaws.{solvable, block-room, levels-are, startable, blocks-are}
 use borrow.Author.Needs.{needs}
 use Rattle.moments.proofs.fill_with.Statement.{statement}
 use Rattle.moments.proofs.fill_with.Tie as tie
@@ -68,20 +69,42 @@ solve-requires c κs =
     let r = read d _ (c .before .before .before .before .before .before .tolerance .ensures) in
     (solvable (begin .args .file .now) (times d) _ _ (begin .pre .0) _ _ _ _ _ _ r, (rw (r .count) (begin .pre .1 .1), rw (r .count) (begin .pre .0 .level-room), block-room (begin .args .file .now) (times d) _ _ (begin .pre .0) _ _ _ _ _ _ r))
 
+-- past the solution
+module _ (S : tie.After-solve) where
+  abbrev d : tie.After-write-jumps
+  d = S .before .before .before .before .before .before .before .before .before
+
+  abbrev begin : tie.Start
+  begin = start (sized d)
+
+  abbrev ε : ℕ
+  ε = S .before .before .before .before .before .before .before .tolerance .result
+
+  r : ReadAs (modelOf (begin .args .file .now)) (times d) (sized d .sizes-of .result) (begin .args .chain .now) (d .before .before .before .before .before .write-chain .last .1 .1 .1 .0) (d .before .before .rewards-of .result) (xs d) ε
+  r = read d ε (S .before .before .before .before .before .before .before .tolerance .ensures)
+
+-- the moments of all times stand in the cells
+put-starts-requires : tie.Need-put-starts-requires
+put-starts-requires c κs =
+    let S = c .before .before .before .before .before .before .before in
+    startable (begin S .args .file .now) (times (d S)) _ _ (begin S .pre .0) _ _ _ _ _ _ (r S) (begin S .args .cells .now) (begin S .pre .0 .block-room) _ (S .solve .ensures .1)
+
 returns : tie.Need-returns
 returns c =
-    let d = c .before .before .before .before .before .before .before .before .before .before .before .before .before .before .before in
-    let begin = start (sized d) in
-    let r = read d _ (c .before .before .before .before .before .before .before .before .before .before .before .before .before .tolerance .ensures) in
-    let solved = c .before .before .before .before .before .before .solve .ensures in
-    (solved .0 ∙ levels-are (begin .args .file .now) (times d) _ _ (begin .pre .0) _ _ _ _ _ _ r _, solved .1 ∙ blocks-are (begin .args .file .now) (times d) _ _ (begin .pre .0) _ _ _ _ _ _ r _)
+    let S = c .before .before .before .before .before .before .before .before .before .before in
+    let same : sized (d S) .sizes-of .result .block ≡ blockSize (begin S .args .file .now) = ap (λ (z : Sizes). z .block) (sized (d S) .sizes-of .ensures) in (
+      S .solve .ensures .0 ∙ levels-are (begin S .args .file .now) (times (d S)) _ _ (begin S .pre .0) _ _ _ _ _ _ (r S) _,
+      c .before .before .put-starts .ensures
+          ∙ ap (λ (b : ℕ). started (modelOf (begin S .args .file .now)) b (length (times (d S))) (S .solve .last .1 .1 .1 .1 .1 .1 .1 .0)) same
+          ∙ blocks-are (begin S .args .file .now) (times (d S)) _ _ (begin S .pre .0) _ _ _ _ _ _ (r S) (begin S .args .cells .now) (begin S .pre .0 .block-room) _ (S .solve .ensures .1),
+    )
 
 pub fill-with-spec : {M : Type 1} → statement M
 fill-with-spec =
     tie.close
     (tie.spec
     (λ c κs. search needs)
-    (λ c κs. search needs)
+    (λ c κs. let given = c .before .before .before .before .before .before .before .before .pre .0 in ((given .framed, given .limits 0 (omega (arith, given .count-min)) .highest-max), c .before .row-sums .ensures))
     write-chain-requires
     (λ c κs. search needs)
     (λ c. search needs)
@@ -90,6 +113,7 @@ fill-with-spec =
     (λ c. xs-held (c .before .before .before .before))
     (λ c. sym (length-take-le _ _ (xs-held (c .before .before .before .before .before))))
     solve-requires
+    put-starts-requires
     (λ c. search needs)
     (λ c. search needs)
     (λ c. search needs)
