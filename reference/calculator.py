@@ -1,7 +1,7 @@
 #!/usr/bin/env python3
 """Reference calculator: moments of the accumulated reward of a repairable system.
 
-Written from document 01 and requests S-1, S-3 and S-4 of document 02 alone, in plain whole
+Written from document 01 and requests S-1, S-3, S-4 and S-5 of document 02 alone, in plain whole
 numbers, with the papers' letters. S-1 decides the last division; every other rounding is down.
 Reads a model file from standard input and prints its sheet:
 
@@ -18,18 +18,19 @@ from operator import mul
 
 ONE = 10**12          # ticks: the unit of every moment is 10^-12
 TOP_WEIGHT = 10**15   # w(m); weights are in units of 10^-15
-MILLION = 10**6       # rates are in millionths per hour
+MILLION = 10**6       # rates are in millionths per hour, starting weights in millionths
 BILLION = 10**9       # the tolerance is in billionths
-READ_LIMIT = 16398    # bytes the program reads at most
-LENT_CELLS = 512      # answer cells the program lends
+READ_LIMIT = 16654    # bytes the program reads at most
+LENT_CELLS = 520      # answer cells the program lends: enough for every file
 LEVEL_LIMIT = 1024    # the level is never above this
 MOST_TIMES = 8        # times that a list may have
 REFUSED = 1_000_000   # refusal k as the answer of a call: this and k
 GIVEN, NONE = 0, 1    # what the call `remainders` answers for a file without a refusal
 
 # M states, highest moment R, tolerance epsilon, time T, reward rates f with the largest F,
-# rows c of the uniformized chain with uniformization rate E, and X = E * T.
-Model = namedtuple("Model", "M R epsilon T f F c E X")
+# rows c of the uniformized chain with uniformization rate E, X = E * T, and starting weights a
+# (none in version 1).
+Model = namedtuple("Model", "M R epsilon T f F c E X a")
 
 # The worked table of a file: E and F, the level N, first[r] = U(0,r) at each state, and its lines. A line has n, r and
 # the state (counted from 1), and the three divisions of U(n,r) there, each a quotient and its rest.
@@ -44,14 +45,30 @@ def number(file, start, size):
     return int.from_bytes(file[start:start + size], "big")
 
 
+def right_length(version, M):
+    """What the length field of a file with M states has to be."""
+    return 4 * M * M + 4 * M + 11 if version == 2 else 4 * M * M + 11
+
+
+def read_starts(file, M):
+    """The M starting weights of version 2, from byte 13; version 1 has none."""
+    return [number(file, 13 + 4 * i, 4) for i in range(M)] if file[2] == 2 else []
+
+
+def first_reward(file, M):
+    """The byte where the reward rates begin: behind the header, in version 2 behind the starting weights."""
+    return 13 + 4 * M if file[2] == 2 else 13
+
+
 def read_rewards(file, M):
-    """The M reward rates, from byte 13."""
-    return [number(file, 13 + 4 * i, 4) for i in range(M)]
+    """The M reward rates."""
+    first = first_reward(file, M)
+    return [number(file, first + 4 * i, 4) for i in range(M)]
 
 
 def read_rates(file, M):
     """Row i: the M - 1 rates from state i to each other state, the diagonal left out."""
-    first = 13 + 4 * M
+    first = first_reward(file, M) + 4 * M
     row_size = 4 * (M - 1)
     return [[number(file, first + i * row_size + 4 * k, 4) for k in range(M - 1)] for i in range(M)]
 
@@ -61,21 +78,28 @@ def uniformization_rate(rates):
     return max(sum(row) for row in rates) or 1
 
 
-def refusal(file, cells):
-    """The number of the first row of the refusal table that holds, or 0 where none holds."""
+def block_size(file):
+    """The cells of a file's block: M * R moments, and in version 2 the R start figures."""
+    M, R = file[3], file[4]
+    return (M + 1) * R if file[2] == 2 else M * R
+
+
+def refusal(file, cells, versions=(1, 2)):
+    """The number of the first row of the refusal table that holds, or 0 where none holds: rows 1 to 8, 16, 9 to 13.
+    Row 3 holds for all but the versions that a call admits."""
     if len(file) < 13:
         return 1
     length = number(file, 0, 2)
     if length != len(file) - 2:
         return 2
-    if file[2] != 1:
+    if file[2] not in versions:
         return 3
     M, R = file[3], file[4]
     if M == 0 or M > 64:
         return 4
     if R == 0 or R > 8:
         return 5
-    if length != 4 * M * M + 11:
+    if length != right_length(file[2], M):
         return 6
     epsilon = number(file, 5, 4)
     if epsilon == 0 or epsilon > 100_000_000:
@@ -83,6 +107,8 @@ def refusal(file, cells):
     T = number(file, 9, 4)
     if T == 0:
         return 8
+    if file[2] == 2 and sum(read_starts(file, M)) != MILLION:
+        return 16
     f = read_rewards(file, M)
     if max(f) > 1_000_000:
         return 9
@@ -93,7 +119,7 @@ def refusal(file, cells):
         return 11
     if uniformization_rate(rates) * T > 256_000_000:
         return 12
-    if cells < M * R:
+    if cells < block_size(file):
         return 13
     return 0
 
@@ -107,7 +133,7 @@ def read_model(file):
     T = number(file, 9, 4)
     # c(i,i) is E less row i's sum; before it the rates to j < i, after it those to j > i.
     c = [row[:i] + [E - sum(row)] + row[i:] for i, row in enumerate(rates)]
-    return Model(M, R, number(file, 5, 4), T, f, max(f), c, E, E * T)
+    return Model(M, R, number(file, 5, 4), T, f, max(f), c, E, E * T, read_starts(file, M))
 
 
 # --- Reward vectors: conditional moments in ticks ---------------------------------------------
@@ -190,6 +216,14 @@ def moment(w, U, N, i, r):
     return last_division(A, sum(w[:N + 1]))
 
 
+def start_figures(model, moments):
+    """The start figures of version 2 for r = 1 to R, from the moments of a block: the sum over the states of weight
+    times moment, over 1,000,000, down. Version 1 has none."""
+    if not model.a:
+        return []
+    return [sum(map(mul, model.a, moments[r - 1::model.R])) // MILLION for r in range(1, model.R + 1)]
+
+
 def outcome(file, cells):
     """("refused", k) or ("level", N) for a file and a count of answer cells."""
     k = refusal(file, cells)
@@ -200,7 +234,8 @@ def outcome(file, cells):
 
 
 def calculate(file, cells):
-    """The outcome of a file; where it is accepted, cells 0 to M * R - 1 take the moments."""
+    """The outcome of a file; where it is accepted, cells 0 to M * R - 1 take the moments, and in version 2 the R cells
+    after them the start figures."""
     result = outcome(file, len(cells))
     if result[0] == "refused":
         return result
@@ -211,20 +246,21 @@ def calculate(file, cells):
     for i in range(1, model.M + 1):
         for r in range(1, model.R + 1):
             cells[(i - 1) * model.R + (r - 1)] = moment(w, U, N, i - 1, r)
+    cells[model.M * model.R:block_size(file)] = start_figures(model, cells)
     return result
 
 
 # --- One model, several times (S-3) --------------------------------------------------------------
 
 def series_refusal(file, times, levels, cells):
-    """The first row that holds for a file with a list of times and counts of level and block cells, or 0: rows 1 to 11,
-    8 also for a first listed time of 0, then 14, 15, 12 for the last listed time, 13."""
+    """The first row that holds for a file with a list of times and counts of level and block cells, or 0: rows 1 to 8,
+    8 also for a first listed time of 0, then 16, 9 to 11, 14, 15, 12 for the last listed time, 13."""
     row = refusal(file, LENT_CELLS)            # 12, for the file's own time, does not count here
     if 1 <= row <= 8:
         return row
     if times and times[0] == 0:
         return 8
-    if 9 <= row <= 11:
+    if row == 16 or 9 <= row <= 11:
         return row
     if not 1 <= len(times) <= MOST_TIMES:
         return 14
@@ -233,24 +269,25 @@ def series_refusal(file, times, levels, cells):
     model = read_model(file)
     if model.E * times[-1] > 256_000_000:
         return 12
-    if levels < len(times) or cells < len(times) * model.M * model.R:
+    if levels < len(times) or cells < len(times) * block_size(file):
         return 13
     return 0
 
 
 def series(file, times, levels, cells):
-    """("refused", k), or ("times", how many): then each time has its level, and its block of M * R cells takes the
-    moments, in list order."""
+    """("refused", k), or ("times", how many): then each time has its level, and its block takes the moments, in version
+    2 the start figures after them, in list order."""
     row = series_refusal(file, times, len(levels), len(cells))
     if row:
         return ("refused", row)
     model = read_model(file)
     found = [level(model.E * T, model.epsilon) for T in times]
     U = reward_vectors(model, max(found))      # no vector depends on the time
-    size = model.M * model.R
+    size = block_size(file)
     for k, (T, N) in enumerate(zip(times, found)):
         w = weights(model.E * T, N)
         block = [moment(w, U, N, i, r) for i in range(model.M) for r in range(1, model.R + 1)]
+        block += start_figures(model, block)
         levels[k] = N
         cells[k * size:(k + 1) * size] = block
     return ("times", len(times))
@@ -298,6 +335,48 @@ def worked(file):
     return Worked(model.E, model.F, N, U[0], lines)
 
 
+# --- From one version to the other (S-5) -----------------------------------------------------------
+
+def framed(version, fields):
+    """The file with this version and the bytes of the fields after it."""
+    return (1 + len(fields)).to_bytes(2, "big") + bytes([version]) + fields
+
+
+def as_version_2(file):
+    """A version 1 file as version 2, all weight on state 1."""
+    starts = MILLION.to_bytes(4, "big") + bytes(4 * (file[3] - 1))
+    return framed(2, file[3:13] + starts + file[13:])
+
+
+def as_version_1(file):
+    """A version 2 file as version 1, without its starting weights."""
+    return framed(1, file[3:13] + file[13 + 4 * file[3]:])
+
+
+def written(file, out):
+    """("refused", 13) where a file is longer than the slice `out`, or ("bytes", how many): then its first bytes are the
+    file."""
+    if len(out) < len(file):
+        return ("refused", 13)
+    out[:len(file)] = file
+    return ("bytes", len(file))
+
+
+def to_version_2(file, out):
+    """A version 1 file moved to version 2: refused by rows 1 to 12, 3 for all but version 1, then 13, or written."""
+    row = refusal(file, LENT_CELLS, [1])       # enough cells for every file: 13 is that of `out`
+    return ("refused", row) if row else written(as_version_2(file), out)
+
+
+def to_version_1(file, out):
+    """A version 2 file moved back: refused by rows 1 to 12 with 16, 3 for all but version 2, then 17, weight on a state
+    other than 1, then 13, or written."""
+    row = refusal(file, LENT_CELLS, [2])
+    if not row and any(read_starts(file, file[3])[1:]):
+        row = 17
+    return ("refused", row) if row else written(as_version_1(file), out)
+
+
 # --- The answer of a call ------------------------------------------------------------------------
 
 def answer(result):
@@ -308,8 +387,13 @@ def answer(result):
 
 # --- The printed sheet -------------------------------------------------------------------------
 
+def sheet_line(i, r, ticks):
+    """A line of the sheet: a state, or "start", and its figure for r."""
+    return f"{i} {r} {ticks // ONE}.{ticks % ONE:012d}"
+
+
 def sheet(file):
-    """The program's output for an input: judged on the bytes it reads, 512 cells lent."""
+    """The program's output for an input: judged on the bytes it reads, 520 cells lent."""
     file = file[:READ_LIMIT]
     cells = [0] * LENT_CELLS
     word, value = calculate(file, cells)
@@ -318,8 +402,10 @@ def sheet(file):
         M, R = file[3], file[4]
         for i in range(1, M + 1):
             for r in range(1, R + 1):
-                ticks = cells[(i - 1) * R + (r - 1)]
-                lines.append(f"{i} {r} {ticks // ONE}.{ticks % ONE:012d}")
+                lines.append(sheet_line(i, r, cells[(i - 1) * R + (r - 1)]))
+        if file[2] == 2:
+            for r in range(1, R + 1):
+                lines.append(sheet_line("start", r, cells[M * R + (r - 1)]))
     return "".join(line + "\n" for line in lines).encode("ascii")
 
 
@@ -368,6 +454,11 @@ def averages(model, levels):
 def average(model, L, i, r):
     """The exact average up to level L at state i (counted from 1) and for r."""
     return averages(model, [L])[L][i - 1][r - 1]
+
+
+def start_averages(model, rows):
+    """The exact averages of `averages` up to one level, weighted by the starting weights, for r = 1 to R."""
+    return [sum(map(mul, model.a, column)) / MILLION for column in zip(*rows)]
 
 
 # --- The program -----------------------------------------------------------------------------------
