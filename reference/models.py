@@ -1,9 +1,10 @@
 #!/usr/bin/env python3
 """Generated model files for the calculator, from a seed.
 
-valid_models(seed, count)    files that are accepted, over the whole range of document 01
-damaged_models(seed, count)  files that reach rows 1 to 12 of the refusal table, the accepted
-                             side of each border, and random bytes
+valid_models(seed, count)    files that are accepted, over the whole range of document 01, in
+                             version 1 and 2
+damaged_models(seed, count)  files that reach rows 1 to 12 and 16 of the refusal table, the
+                             accepted side of each border, and random bytes
 few_cells_models(seed, count)  accepted files with a count of cells at the border of row 13
 
     python3 reference/models.py --seed 1 --count 20 --out DIR
@@ -24,19 +25,22 @@ MAX_REWARD = 1_000_000
 MAX_ROW_SUM = 10_000_000
 MAX_X = 256_000_000
 MAX_WORD = 2**32 - 1
+ALL_WEIGHT = 1_000_000      # what the starting weights of version 2 sum to
 
 
 # --- Bytes ----------------------------------------------------------------------------------
 
-def build(version, M, R, eps, T, rewards, rates, length=None):
+def words(numbers):
+    """Numbers of 4 bytes each, one after the other."""
+    return b"".join(number.to_bytes(4, "big") for number in numbers)
+
+
+def build(version, M, R, eps, T, rewards, rates, weights=()):
     """The bytes of a model file. rates holds one row per state: the rates to each other
-    state, j rising, the diagonal left out. The length field is right unless it is given."""
-    body = bytes([version, M, R]) + eps.to_bytes(4, "big") + T.to_bytes(4, "big")
-    body += b"".join(f.to_bytes(4, "big") for f in rewards)
-    body += b"".join(rate.to_bytes(4, "big") for row in rates for rate in row)
-    if length is None:
-        length = len(body)
-    return length.to_bytes(2, "big") + body
+    state, j rising, the diagonal left out. weights are the starting weights of version 2."""
+    body = bytes([version, M, R]) + words([eps, T, *weights, *rewards])
+    body += b"".join(map(words, rates))
+    return len(body).to_bytes(2, "big") + body
 
 
 def relength(file):
@@ -47,6 +51,16 @@ def relength(file):
 def valid(M, R, eps, T, rewards, rates):
     """The fields of an accepted file, to be changed one by one and then built."""
     return dict(version=1, M=M, R=R, eps=eps, T=T, rewards=rewards, rates=rates)
+
+
+def in_version_2(fields, weights):
+    """The fields of a file as those of version 2 with these starting weights."""
+    return dict(fields, version=2, weights=weights)
+
+
+def in_either_version(rng, fields):
+    """The fields as they are, or as those of version 2."""
+    return in_version_2(fields, random_starts(rng, fields["M"])) if rng.random() < 0.5 else fields
 
 
 def edge_fields(row):
@@ -131,6 +145,101 @@ def small_fields(rng, low=1, high=5):
     E = log_uniform(rng, 1, 1_000_000)
     T = log_uniform(rng, 1, max(1, 20_000_000 // E))
     return fields_for(rng, M, E, T)
+
+
+# --- Starting weights (version 2) ---------------------------------------------------------------
+
+def on_one(M, place):
+    """All weight on one state, counted from 0."""
+    return [ALL_WEIGHT if k == place else 0 for k in range(M)]
+
+
+def with_zeros(rng, M):
+    """Weight on two states or more, and none on one or more; of one state or two, on one."""
+    weights = [0] * M
+    count = rng.randint(2, M - 1) if M > 2 else 1
+    for place, part in zip(rng.sample(range(M), count), split(rng, ALL_WEIGHT, count)):
+        weights[place] = part
+    return weights
+
+
+def even(rng, M):
+    """The same on every state, as far as it goes."""
+    each, left = divmod(ALL_WEIGHT, M)
+    return [each + (k < left) for k in range(M)]
+
+
+def uneven(rng, M):
+    """Weight on every state."""
+    return [1 + part for part in split(rng, ALL_WEIGHT - M, M)]
+
+
+def nearly_on_one(rng, M):
+    """All but a millionth on the first or the last state (of one state: all)."""
+    place = rng.choice([0, M - 1])
+    weights = on_one(M, place)
+    weights[place] -= 1
+    weights[rng.choice([k for k in range(M) if k != place] or [place])] += 1
+    return weights
+
+
+# Starting weights that sum to 1,000,000, as functions of rng and M.
+STARTS = {
+    "on-first": lambda rng, M: on_one(M, 0),
+    "on-last": lambda rng, M: on_one(M, M - 1),
+    "on-one": lambda rng, M: on_one(M, rng.randrange(M)),
+    "nearly-on-one": nearly_on_one,
+    "with-zeros": with_zeros,
+    "even": even,
+    "uneven": uneven,
+}
+
+
+def random_starts(rng, M):
+    return STARTS[rng.choice([*STARTS])](rng, M)
+
+
+def right_in_32_bits(rng, M):
+    """Weights of two states or more that sum to 1,000,000 and some times 2^32."""
+    times = rng.randint(1, M - 1)
+    weights = [MAX_WORD] * times + split(rng, ALL_WEIGHT + times, M - times)
+    rng.shuffle(weights)
+    return weights
+
+
+def right_without_one(place):
+    """Weights of two states or more that sum to 1,000,000 without one state, which has some too."""
+    def make(rng, M):
+        weights = split(rng, ALL_WEIGHT, M - 1)
+        weights.insert(place % M, rng.randint(1, ALL_WEIGHT))
+        return weights
+    return make
+
+
+# Starting weights of two states or more that do not sum to 1,000,000.
+WRONG_SUMS = {
+    "0": lambda rng, M: [0] * M,
+    "999999": lambda rng, M: split(rng, ALL_WEIGHT - 1, M),
+    "1000001": lambda rng, M: split(rng, ALL_WEIGHT + 1, M),
+    "right-in-32-bits": right_in_32_bits,
+    "right-without-first": right_without_one(0),
+    "right-without-last": right_without_one(-1),
+    "1000000-each": lambda rng, M: [ALL_WEIGHT] * M,
+    "largest-words": lambda rng, M: [MAX_WORD] * M,
+    "any": lambda rng, M: split(rng, ALL_WEIGHT + rng.randint(1, 2**31), M),
+}
+
+
+def wrong_starts(rng, M):
+    return WRONG_SUMS[rng.choice([*WRONG_SUMS])](rng, M)
+
+
+def not_on_first_alone(rng, M):
+    """Starting weights of two states or more, with some on a state other than the first."""
+    while True:
+        weights = random_starts(rng, M)
+        if any(weights[1:]):
+            return weights
 
 
 # --- Kinds of valid models ----------------------------------------------------------------------
@@ -317,17 +426,18 @@ def valid_kind(index):
 
 
 def valid_models(seed, count):
-    """`count` accepted files, as (name, bytes)."""
+    """`count` accepted files, as (name, bytes); about every second is of version 2."""
     rng = random.Random(seed)
     for index in range(count):
         kind = valid_kind(index)
-        yield f"{index:05d}-valid-{kind.__name__.replace('_', '-')}", build(**kind(rng))
+        fields = in_either_version(rng, kind(rng))
+        yield f"{index:05d}-valid-{kind.__name__.replace('_', '-')}-version-{fields['version']}", build(**fields)
 
 
 # --- Damage -----------------------------------------------------------------------------------
 # Each kind is (row, what, function of rng giving the bytes). Row 0 is the accepted side of a
 # border; row None is left to the calculator. The row is the one the program prints, which
-# judges the first 16,398 bytes.
+# judges the first 16,654 bytes.
 
 def changed(base=small_fields, **changes):
     """A random accepted file with some fields changed; a change may be a function of rng."""
@@ -349,13 +459,24 @@ def states_64(rng):
     return fields_for(rng, 64, 1000, 1, R=rng.choice([1, 8]), eps=MAX_TOLERANCE)
 
 
+def single(rng):
+    return small_fields(rng, 1, 1)
+
+
 def two_or_more(rng):
     return small_fields(rng, 2, 5)
 
 
-def full_size(states):
+def small_starting(rng):
+    """A random accepted file of version 2."""
+    fields = small_fields(rng)
+    return in_version_2(fields, random_starts(rng, fields["M"]))
+
+
+def full_size(states, version=1):
     """A file of `states` states (64 or 65), every rate 1."""
-    return build(1, states, 1, 1, 1, [1] * states, [[1] * (states - 1)] * states)
+    weights = on_one(states, 0) if version == 2 else ()
+    return build(version, states, 1, 1, 1, [1] * states, [[1] * (states - 1)] * states, weights)
 
 
 def wrong_length(rng):
@@ -440,9 +561,47 @@ def product_past_32_bits(rng):
     return build(**fields_for(rng, rng.randint(2, 3), E, 2**(32 - shift) + rng.choice([0, 1])))
 
 
-def breaking(rng, fields, rows):
-    """A file of two states or more, changed so that it breaks these rows of 1 to 12: the first of them counts."""
+def starting(starts, base=small_fields):
+    """A random accepted file in version 2 with starting weights by a function of rng and M."""
+    def make(rng):
+        fields = base(rng)
+        return build(**in_version_2(fields, starts(rng, fields["M"])))
+    return make
+
+
+def with_starts(file, rng):
+    """A file of version 1 as one of version 2 with any starting weights that sum to 1,000,000."""
+    return relength(file[:2] + b"\2" + file[3:13] + words(random_starts(rng, file[3])) + file[13:])
+
+
+def rewards_like_weights(total):
+    """Reward rates that sum to 1,000,000, and starting weights that sum to `total`."""
+    def make(rng):
+        fields = two_or_more(rng)
+        fields["rewards"] = uneven(rng, fields["M"])
+        return build(**in_version_2(fields, split(rng, total, fields["M"])))
+    return make
+
+
+def other_version(rng, versions):
+    """A version that is none of these."""
+    return rng.choice([each for each in (0, 1, 2, 3, 255, rng.randint(3, 255)) if each not in versions])
+
+
+def other_length(file, rng):
+    """The file with the length of the other version: without its weights, or with some. Its version stays."""
+    M = file[3]
+    return relength(file[:13] + (file[13 + 4 * M:] if file[2] == 2 else words(random_starts(rng, M)) + file[13:]))
+
+
+def breaking(rng, fields, rows, versions=(1, 2)):
+    """A file of two states or more, changed so that it breaks these rows of 1 to 12, 16 and 17: the first of them in
+    the order of a call counts. `versions` are those that the call admits; 16 and 17 make the file one of version 2."""
     M = fields["M"]
+    if 17 in rows:
+        fields = in_version_2(fields, not_on_first_alone(rng, M))
+    if 16 in rows:
+        fields = in_version_2(fields, wrong_starts(rng, M))
     if 12 in rows:
         fields["T"] = MAX_WORD
         fields["rates"] = [row_to(rng, M, rng.randint(1, 9_000_000), 1.0) for _ in range(M)]
@@ -461,7 +620,7 @@ def breaking(rng, fields, rows):
     if 4 in rows:
         fields["M"] = rng.choice([0, 65, rng.randint(65, 255)])
     if 3 in rows:
-        fields["version"] = rng.choice([0, 2, rng.randint(2, 255)])
+        fields["version"] = other_version(rng, versions)
     file = build(**fields)
     if 6 in rows:
         file = relength(file + bytes(rng.randint(1, 9)))
@@ -489,7 +648,7 @@ def random_bytes_right_length(rng):
 
 
 def random_numbers(rng):
-    """The right shape and version, every number up to about twice its limit."""
+    """The right shape and version 1, every number up to about twice its limit."""
     M = rng.randint(1, 4)
     rewards = [rng.randint(0, rng.choice([3, 1_000_000, 1_200_000])) for _ in range(M)]
     most = 20_000_000 // M
@@ -498,8 +657,8 @@ def random_numbers(rng):
     return build(1, M, rng.randint(1, 8), eps, log_uniform(rng, 1, 1_000), rewards, rates)
 
 
-def flipped_bits(rng):
-    file = bytearray(build(**small_fields(rng)))
+def flipped_bits(rng, make=changed()):
+    file = bytearray(make(rng))
     for _ in range(rng.randint(1, 3)):
         file[rng.randrange(len(file))] ^= 1 << rng.randrange(8)
     return bytes(file)
@@ -535,16 +694,20 @@ DAMAGE = [
     (2, "bytes-too-many", bytewise(lambda file, rng: file + rng.randbytes(rng.randint(2, 90)))),
     (2, "64-states-one-byte-too-many", lambda rng: full_size(64) + b"\0"),
     (2, "20000-bytes-length-19998", lambda rng: relength(full_size(64) + bytes(3603))),
+    (2, "20000-bytes-length-16396", lambda rng: relength(full_size(64) + b"\0") + bytes(3602)),
     (2, "65-states-in-full", lambda rng: full_size(65)),
+    (2, "64-states-version-2-one-byte-too-many", lambda rng: full_size(64, 2) + b"\0"),
+    (2, "65-states-version-2-in-full", lambda rng: full_size(65, 2)),
     (3, "version-0", changed(version=0)),
-    (3, "version-2", changed(version=2)),
+    (3, "version-3", changed(version=3)),
+    (3, "version-3-with-weights", bytewise(lambda file, rng: file[:2] + b"\3" + file[3:], small_starting)),
     (3, "version-255", changed(version=255)),
     (4, "states-0", changed(M=0)),
     (4, "states-0-length-11", lambda rng: build(1, 0, 1, 1, 1, [], [])),
     (4, "states-65", changed(M=65)),
     (4, "states-255", changed(M=255)),
     (0, "states-64", changed(states_64)),
-    (0, "states-1", changed(lambda rng: small_fields(rng, 1, 1))),
+    (0, "states-1", changed(single)),
     (5, "moments-0", changed(R=0)),
     (5, "moments-9", changed(R=9)),
     (5, "moments-255", changed(R=255)),
@@ -558,7 +721,13 @@ DAMAGE = [
     (6, "diagonal-given", diagonal_given),
     (6, "states-one-more", bytewise(lambda file, rng: file[:3] + bytes([file[3] + 1]) + file[4:])),
     (6, "16398-bytes-counted", lambda rng: relength(full_size(64) + b"\0")),
-    (6, "20000-bytes-length-16396", lambda rng: relength(full_size(64) + b"\0") + bytes(3602)),
+    (6, "16654-bytes-counted", lambda rng: relength(full_size(64, 2) + b"\0")),
+    (6, "20000-bytes-length-16652", lambda rng: relength(full_size(64, 2) + b"\0") + bytes(3346)),
+    (6, "version-2-length-of-version-1", bytewise(other_length, small_starting)),
+    (6, "version-1-length-of-version-2", bytewise(other_length)),
+    (6, "version-2-one-weight-too-many", bytewise(lambda file, rng: relength(file + bytes(4)), small_starting)),
+    (6, "version-2-one-rate-too-few", bytewise(lambda file, rng: relength(file[:-4]), small_starting)),
+    (6, "version-2-no-numbers", bytewise(lambda file, rng: relength(file[:13]), small_starting)),
     (7, "tolerance-0", changed(eps=0)),
     (7, "tolerance-100000001", changed(eps=MAX_TOLERANCE + 1)),
     (7, "tolerance-largest-word", changed(eps=MAX_WORD)),
@@ -566,6 +735,18 @@ DAMAGE = [
     (0, "tolerance-1", changed(eps=1)),
     (8, "time-0", changed(T=0)),
     (0, "time-1", changed(T=1)),
+    *((16, f"weights-sum-{name}", starting(make, two_or_more)) for name, make in WRONG_SUMS.items()),
+    (16, "weights-sum-999999-1-state", starting(lambda rng, M: [999_999], single)),
+    (16, "weights-sum-1000001-1-state", starting(lambda rng, M: [1_000_001], single)),
+    (16, "weights-largest-word-1-state", starting(lambda rng, M: [MAX_WORD], single)),
+    (16, "weights-largest-words-64-states", starting(WRONG_SUMS["largest-words"], states_64)),
+    (16, "weights-right-in-32-bits-64-states", starting(right_in_32_bits, states_64)),
+    (16, "weights-sum-999999-rewards-1000000", rewards_like_weights(999_999)),
+    *((0, f"weights-{name}", starting(make, two_or_more)) for name, make in STARTS.items()),
+    (0, "weights-1-state", starting(even, single)),
+    (0, "weights-on-last-64-states", starting(STARTS["on-last"], states_64)),
+    (0, "weights-uneven-64-states", starting(uneven, states_64)),
+    (0, "weights-and-rewards-1000000", rewards_like_weights(ALL_WEIGHT)),
     (9, "reward-1000001-first", rewards_with(MAX_REWARD + 1, "first")),
     (9, "reward-1000001-last", rewards_with(MAX_REWARD + 1, "last")),
     (9, "reward-above", rewards_with(lambda rng: rng.randint(MAX_REWARD + 1, MAX_WORD), "any")),
@@ -602,6 +783,11 @@ DAMAGE = [
     (7, "several-again", several(7, [10, 11, 12])),
     (8, "several", several(8, [9, 11])),
     (8, "several-again", several(8, [10, 11])),
+    (6, "several-with-16", several(6, [16])),
+    (7, "several-with-16", several(7, [16])),
+    (8, "several-with-16", several(8, [16])),
+    (16, "several", several(16, [9, 11, 12])),
+    (16, "several-again", several(16, [10, 11, 12])),
     (9, "several", several(9, [11, 12])),
     (10, "several", several(10, [11, 12])),
     (11, "several", several(11, [12])),
@@ -609,6 +795,7 @@ DAMAGE = [
     (None, "random-bytes-right-length", random_bytes_right_length),
     (None, "random-numbers", random_numbers),
     (None, "flipped-bits", flipped_bits),
+    (None, "flipped-bits-version-2", lambda rng: flipped_bits(rng, changed(small_starting))),
 ]
 
 
@@ -619,22 +806,31 @@ def damage_name(row, what):
     return f"refused{row:02d}-{what}" if row else f"accepted-{what}"
 
 
+def damaged(rng, row, make):
+    """A file of a kind of damage. Where it is accepted or refused by its numbers, about every second is put into
+    version 2."""
+    file = make(rng)
+    by_numbers = row in (0, 7, 8, 9, 10, 11, 12) and file[2] == 1
+    return with_starts(file, rng) if by_numbers and rng.random() < 0.5 else file
+
+
 def damaged_models(seed, count):
     """`count` files at and beyond the borders, as (name, bytes); the name tells the row."""
     rng = random.Random(seed)
     for index in range(count):
         row, what, make = DAMAGE[index % len(DAMAGE)]
-        yield f"{index:05d}-{damage_name(row, what)}", make(rng)
+        yield f"{index:05d}-{damage_name(row, what)}", damaged(rng, row, make)
 
 
 def few_cells_models(seed, count):
-    """Accepted files with a count of answer cells, as (name, bytes, cells): M * R cells are
-    enough, one less or none is row 13."""
+    """Accepted files with a count of answer cells, as (name, bytes, cells): M * R cells are enough in version 1,
+    (M + 1) * R in version 2, one less or none is row 13."""
     rng = random.Random(seed)
     for index in range(count):
-        fields = small_fields(rng)
-        need = fields["M"] * fields["R"]
-        row, cells = [(13, need - 1), (0, need), (13, 0)][index % 3]
+        fields = (small_fields if index % 2 else small_starting)(rng)
+        moments = fields["M"] * fields["R"]
+        need = moments if index % 2 else moments + fields["R"]
+        row, cells = [(13, need - 1), (0, need), (0, need + 3), (13, 0), (0 if index % 2 else 13, moments)][index % 5]
         yield f"{index:05d}-{damage_name(row, 'cells')}", build(**fields), cells
 
 
