@@ -1,11 +1,12 @@
 """Generated inputs of the library's calls, from a seed.
 
-calculate_inputs(seed, count)   files, valid and damaged, with counts of cells about the border of row 13
-series_inputs(seed, count)      files with lists of times, and counts of level and block cells
-remainders_inputs(seed, count)  files with a state, n and r: within their limits, at their ends, outside
+calculate_inputs(seed, count)     files, valid and damaged, with counts of cells about the border of row 13
+series_inputs(seed, count)        files with lists of times, and counts of level and block cells
+remainders_inputs(seed, count)    files with a state, n and r: within their limits, at their ends, outside
+to_version_2_inputs(seed, count)  files with a count of bytes for the moved one; to_version_1_inputs alike
 
-A third of the inputs is aimed at a row of the call's table, each row in its turn, and breaks some later rows as well; a
-third is accepted, for remainders each aimed at an end of its numbers or models; the others are put together by chance.
+The inputs of a call come from several parts in turn: aimed at a row of the call's table, each row in its turn, breaking
+some later rows as well; accepted; aimed at an end of its files, counts or numbers; put together by chance.
 """
 
 import copy
@@ -21,12 +22,18 @@ from models import MAX_WORD, MAX_X
 # The call, and what it gets: {parameter: a number, the elements of a slice, or the count of a slice that is written}.
 Input = namedtuple("Input", "name call given")
 
-# The refusals of each call, in the order in which they are tried.
+# The versions that each call admits.
+VERSIONS = {"calculate": (1, 2), "series": (1, 2), "remainders": (1, 2), "to_version_2": (1,), "to_version_1": (2,)}
+
+# The refusals of each call, in the order in which they are tried. A file of version 1 has no weights for 16.
 ROWS = {
-    "calculate": [*range(1, 14)],
-    "series": [*range(1, 12), 14, 15, 12, 13],
-    "remainders": [*range(1, 13)],
+    "calculate": [*range(1, 9), 16, *range(9, 14)],
+    "series": [*range(1, 9), 16, 9, 10, 11, 14, 15, 12, 13],
+    "remainders": [*range(1, 9), 16, *range(9, 13)],
+    "to_version_2": [*range(1, 14)],
+    "to_version_1": [*range(1, 9), 16, *range(9, 13), 17, 13],
 }
+FILE_ROWS = {*range(1, 13), 16, 17}     # those that a file breaks by itself
 CHEAP = 200_000     # multiplications of the vectors of one input
 LARGEST = 2**64 - 1
 
@@ -42,20 +49,43 @@ def outcome(program, call, given, other=False):
 
 # --- Files --------------------------------------------------------------------------------------
 
-def base_fields(rng):
-    """The fields of an accepted file of two to five states."""
+def in_one_of(rng, versions, fields):
+    """The fields of a version 1 file in one of these versions; where that is 2 alone, all weight is on state 1."""
+    if versions == (2,):
+        return models.in_version_2(fields, models.on_one(fields["M"], 0))
+    return fields if versions == (1,) else models.in_either_version(rng, fields)
+
+
+def base_fields(rng, versions=(1, 2)):
+    """The fields of an accepted file of two to six states, in one of these versions."""
     kind = rng.choice([models.two_or_more, models.two_or_more, models.tiny, models.stiff_pair, models.large_primes,
                        models.q_256, models.time_longest, models.row_sum_largest, models.absorbing_states])
-    return kind(rng)
+    return in_one_of(rng, versions, kind(rng))
+
+
+def other_version(call):
+    """The version that a call does not admit, of one that admits 1 or 2 alone."""
+    return (3 - VERSIONS[call][0],)
+
+
+def broken_file(rng, call, rows):
+    """A file that breaks these rows of the call's table, as far as they are a file's: row 3 also by a file of the other
+    version, row 6 also by its length."""
+    rows, versions = rows & FILE_ROWS, VERSIONS[call]
+    if 3 in rows and len(versions) == 1 and rng.random() < 0.5:
+        return models.breaking(rng, base_fields(rng, other_version(call)), rows - {3, 16, 17})
+    if min(rows, default=0) == 6 and rng.random() < 0.3:
+        return models.other_length(models.breaking(rng, base_fields(rng, versions), rows - {6}), rng)
+    return models.breaking(rng, base_fields(rng, versions), rows, versions)
 
 
 def longer_by_65536(rng):
     """A file whose length is right in 16 bits alone."""
-    return models.build(**models.small_fields(rng)) + bytes(2**16)
+    return models.build(**models.in_either_version(rng, models.small_fields(rng))) + bytes(2**16)
 
 
 def any_accepted(rng):
-    return models.build(**rng.choice(models.SMALL_KINDS)(rng))
+    return models.build(**models.in_either_version(rng, rng.choice(models.SMALL_KINDS)(rng)))
 
 
 def any_file(rng):
@@ -64,7 +94,8 @@ def any_file(rng):
     if kind < 0.01:
         return longer_by_65536(rng)
     if kind < 0.5:
-        return rng.choice(models.DAMAGE)[2](rng)
+        row, _, make = rng.choice(models.DAMAGE)
+        return models.damaged(rng, row, make)
     return any_accepted(rng)
 
 
@@ -78,15 +109,21 @@ def with_time(file, T):
 
 
 def longest_time(file):
-    """The longest time that row 12 lets pass; that of E = 1 where no rates can be read, or row 11 holds."""
-    if calculator.refusal(file, calculator.LENT_CELLS) in range(1, 12):
+    """The longest time that row 12 lets pass; that of E = 1 where an earlier row holds."""
+    if calculator.refusal(file, calculator.LENT_CELLS) not in (0, 12):
         return MAX_X
     return MAX_X // calculator.read_model(file).E
 
 
 def need(file):
-    """M * R where the bytes are there, or 512 where that is more."""
-    return min(file[3] * file[4], calculator.LENT_CELLS) if len(file) > 4 else 4
+    """The cells of a block where the bytes are there, or 520 where that is more."""
+    return min(calculator.block_size(file), calculator.LENT_CELLS) if len(file) > 4 else 4
+
+
+def moved_length(call, file):
+    """The bytes of a file that a call moves, as far as they can be told, and 1 or more."""
+    weights = 4 * file[3] if len(file) > 3 else 0
+    return max(1, len(file) + weights if call == "to_version_2" else len(file) - weights)
 
 
 # --- Counts -----------------------------------------------------------------------------------------
@@ -101,6 +138,10 @@ def at_least(rng, enough):
     return enough + rng.choice([0, 0, 1, rng.randint(2, 40)])
 
 
+def room(rng, enough, short):
+    return (too_few if short else at_least)(rng, max(1, enough))
+
+
 # --- Rows ------------------------------------------------------------------------------------------
 
 def row_of(answer):
@@ -109,8 +150,11 @@ def row_of(answer):
 
 
 def and_later(rng, call, row):
-    """A row, and up to three that come after it in the call's table; none comes after row 0, which is no row."""
+    """A row and the next one in the call's table, or up to three that come after it; none comes after row 0, which is
+    no row."""
     later = ROWS[call][ROWS[call].index(row) + 1:] if row else []
+    if rng.random() < 0.4:
+        return {row, *later[:1]}
     return {row} | set(rng.sample(later, rng.randint(0, min(3, len(later)))))
 
 
@@ -175,7 +219,8 @@ def another_time(rng, file):
 
 def edge_series(rng):
     """An accepted list with the time for which a rounding or the level of its file is decided by little."""
-    file = models.build(**rng.choice([models.rounding_edge, models.rounding_edge, models.level_edge])(rng))
+    fields = rng.choice([models.rounding_edge, models.rounding_edge, models.level_edge])(rng)
+    file = models.build(**models.in_either_version(rng, fields))
     times = sorted({own_time(file), *rising(rng, longest_time(file), rng.randint(1, 7))})
     return dict(file=with_time(file, another_time(rng, file)), times=times, levels=at_least(rng, len(times)),
                 cells=at_least(rng, len(times) * need(file)))
@@ -187,18 +232,14 @@ def aimed_series(rng, row):
         return edge_series(rng)
     rows = and_later(rng, "series", row)
     in_list = rows & {12, 14, 15} | ({8} & rows if rng.random() < 0.5 else set())
-    in_file = rows & set(range(1, 12)) - in_list
-    file = models.breaking(rng, base_fields(rng), in_file)
+    in_file = rows & {*range(1, 12), 16} - in_list
+    file = broken_file(rng, "series", in_file)
     if len(file) >= 13 and 8 not in in_file:
         file = with_time(file, another_time(rng, file))
     times = list_of_times(rng, longest_time(file), in_list)
-    enough = max(1, len(times)), max(1, len(times) * need(file))
-    if 13 in rows:
-        short = rng.choice([(0,), (1,), (0, 1)])
-        levels, cells = ((too_few if k in short else at_least)(rng, enough[k]) for k in (0, 1))
-    else:
-        levels, cells = (at_least(rng, each) for each in enough)
-    return dict(file=file, times=times, levels=levels, cells=cells)
+    short = rng.choice([(True, False), (False, True), (True, True)]) if 13 in rows else (False, False)
+    return dict(file=file, times=times, levels=room(rng, len(times), short[0]),
+                cells=room(rng, len(times) * need(file), short[1]))
 
 
 def any_series(rng):
@@ -208,14 +249,19 @@ def any_series(rng):
         file = with_time(file, another_time(rng, file))
     broken = {row for row, share in ((8, 0.05), (14, 0.1), (15, 0.1), (12, 0.1)) if rng.random() < share}
     times = list_of_times(rng, longest_time(file), broken)
-    enough = max(1, len(times)), max(1, len(times) * need(file))
-    levels, cells = ((too_few if rng.random() < 0.1 else at_least)(rng, each) for each in enough)
+    levels, cells = (room(rng, each, rng.random() < 0.1) for each in (len(times), len(times) * need(file)))
     return dict(file=file, times=times, levels=levels, cells=cells)
 
 
+def series_of(rng, file):
+    """A file with a list that is accepted, and cells just enough."""
+    times = list_of_times(rng, longest_time(file), set())
+    return dict(file=file, times=times, levels=len(times), cells=len(times) * need(file))
+
+
 def large_series(rng):
-    """64 states, which take all cells where R is 8 and the list has 8 times."""
-    file = models.build(**models.states_64(rng))
+    """64 states, which take all cells where R is 8, the list has 8 times and the file is of version 2."""
+    file = models.build(**models.in_either_version(rng, models.states_64(rng)))
     times = rising(rng, 4_000, rng.choice([1, 8]))
     return dict(file=file, times=times, levels=len(times), cells=len(times) * need(file))
 
@@ -225,14 +271,43 @@ def large_series(rng):
 def aimed_calculate(rng, row):
     """An input that breaks this row and some that come after it; row 0: none."""
     rows = and_later(rng, "calculate", row)
-    file = models.breaking(rng, base_fields(rng), rows & set(range(1, 13)))
-    enough = max(1, need(file))
-    return dict(file=file, cells=(too_few if 13 in rows else at_least)(rng, enough))
+    file = broken_file(rng, "calculate", rows)
+    return dict(file=file, cells=room(rng, need(file), 13 in rows))
 
 
 def any_calculate(rng):
     file = any_file(rng)
-    return dict(file=file, cells=(too_few if rng.random() < 0.3 else at_least)(rng, max(1, need(file))))
+    return dict(file=file, cells=room(rng, need(file), rng.random() < 0.3))
+
+
+def calculate_of(rng, file):
+    """A file with cells just enough."""
+    return dict(file=file, cells=need(file))
+
+
+def large_calculate(rng):
+    """64 states, which take all cells where R is 8 and the file is of version 2."""
+    return calculate_of(rng, models.build(**models.in_either_version(rng, models.states_64(rng))))
+
+
+# --- Inputs of to_version_2 and to_version_1 ----------------------------------------------------------
+
+def aimed_move(rng, call, row):
+    """An input that breaks this row and some that come after it; row 0: none."""
+    rows = and_later(rng, call, row)
+    file = broken_file(rng, call, rows)
+    return dict(file=file, out=room(rng, moved_length(call, file), 13 in rows))
+
+
+def any_move(rng, call):
+    """An input of chance; of the files without damage, half are of the version to be moved."""
+    file = any_file(rng) if rng.random() < 0.7 else models.build(**base_fields(rng, VERSIONS[call]))
+    return dict(file=file, out=room(rng, moved_length(call, file), rng.random() < 0.3))
+
+
+def move_of(rng, file, call):
+    """A file with just the bytes that the moved one takes."""
+    return dict(file=file, out=moved_length(call, file))
 
 
 # --- Inputs of remainders -----------------------------------------------------------------------------
@@ -337,7 +412,7 @@ def any_number(rng, limit):
 
 def refused_remainders(rng, row, outside):
     """An input that breaks this row and some that come after it, with numbers that every file has, or none has."""
-    file = models.breaking(rng, base_fields(rng), and_later(rng, "remainders", row))
+    file = broken_file(rng, "remainders", and_later(rng, "remainders", row))
     return asked(file, **(all_beyond(rng, MOST) if outside else dict.fromkeys(NUMBERS, 1)))
 
 
@@ -345,7 +420,7 @@ def at_place(rng, name, place):
     """An accepted file with one number at a place and the others within their limits; for n, files whose level is
     decided by little as well."""
     by_little = name == "n" and rng.random() < 0.5
-    file = models.build(**models.level_edge(rng)) if by_little else any_accepted(rng)
+    file = models.build(**models.in_either_version(rng, models.level_edge(rng))) if by_little else any_accepted(rng)
     limit = limits(file)
     return asked(file, **{**within(rng, limit), name: PLACES[place](limit[name])})
 
@@ -353,7 +428,7 @@ def at_place(rng, name, place):
 def of_model(rng, model):
     """An input that reaches one of MODELS: drawn until it does."""
     while True:
-        file = models.build(**MODELS[model](rng))
+        file = models.build(**models.in_either_version(rng, MODELS[model](rng)))
         given = asked(file, **within(rng, limits(file)))
         if model in remainders_ends(given, outcome(calculator, "remainders", given)):
             return given
@@ -367,7 +442,8 @@ def outside_remainders(rng):
 
 def given_remainders(rng):
     """An accepted file, mostly one that leaves rests nearly everywhere, with numbers within their limits."""
-    file = models.build(**rng.choice([near_largest, models.large_primes, rng.choice(models.SMALL_KINDS)])(rng))
+    fields = rng.choice([near_largest, models.large_primes, rng.choice(models.SMALL_KINDS)])(rng)
+    file = models.build(**models.in_either_version(rng, fields))
     return asked(file, **within(rng, limits(file)))
 
 
@@ -376,19 +452,144 @@ def any_remainders(rng):
     return asked(file, **{name: any_number(rng, limit) for name, limit in limits(file).items()})
 
 
+# --- Ends of versions, starting weights and counts -------------------------------------------------------
+
+# What may hold of starting weights that sum to 1,000,000, and the kind of models.STARTS that is drawn for it.
+START_ENDS = {
+    "start-on-first": ("on-first", lambda weights: weights[0] == models.ALL_WEIGHT),
+    "start-on-last": ("on-last", lambda weights: weights[-1] == models.ALL_WEIGHT and len(weights) > 1),
+    "start-nearly-on-one": ("nearly-on-one", lambda weights: max(weights) == models.ALL_WEIGHT - 1),
+    "start-with-zeros": ("with-zeros", lambda weights: 0 in weights and max(weights) < models.ALL_WEIGHT),
+    "start-even": ("even", lambda weights: len(weights) > 1 and max(weights) - min(weights) < 2),
+    "start-uneven": ("uneven", lambda weights: 0 < min(weights) < max(weights) - 1),
+}
+
+# The same of weights that do not, and the kind of models.WRONG_SUMS.
+SUM_ENDS = {
+    "sum-0": ("0", lambda weights: sum(weights) == 0),
+    "sum-999999": ("999999", lambda weights: sum(weights) == 999_999),
+    "sum-1000001": ("1000001", lambda weights: sum(weights) == 1_000_001),
+    "sum-right-in-32-bits": ("right-in-32-bits", lambda weights: sum(weights) % 2**32 == models.ALL_WEIGHT),
+    "sum-right-without-first": ("right-without-first", lambda weights: sum(weights[1:]) == models.ALL_WEIGHT),
+    "sum-right-without-last": ("right-without-last", lambda weights: sum(weights[:-1]) == models.ALL_WEIGHT),
+    "64-largest-words": ("largest-words", lambda weights: weights == [MAX_WORD] * 64),
+}
+
+# Counts of what a call writes, by how much is enough, and another count: for cells of version 2 those of the moments
+# alone, for a moved file the bytes of the file itself.
+ROOM_ENDS = {
+    "room-none": lambda enough, other: 0,
+    "room-one-less": lambda enough, other: enough - 1,
+    "room-just-enough": lambda enough, other: enough,
+    "room-three-more": lambda enough, other: enough + 3,
+    "room-other": lambda enough, other: other,
+}
+
+
+def weights_of(file):
+    return calculator.read_starts(file, file[3])
+
+
+def rooms(call, given):
+    """The parameter with the count of what is written, how much is enough, and the other count of ROOM_ENDS."""
+    file = given["file"]
+    if call in ("to_version_2", "to_version_1"):
+        return "out", moved_length(call, file), len(file)
+    times = len(given.get("times", [1]))
+    return "cells", times * need(file), times * file[3] * file[4]
+
+
+def room_ends(call, given):
+    """Which of ROOM_ENDS an input reaches whose file is not refused; of cells in version 2 alone."""
+    name, enough, other = rooms(call, given)
+    if (name == "cells" and given["file"][2] == 1) or given.get("levels", LARGEST) < len(given.get("times", [])):
+        return []
+    return [end for end, count in ROOM_ENDS.items() if given[name] == count(enough, other)]
+
+
+def file_ends(call, given, result):
+    """The ends that an input reaches by its file's version and starting weights, and by its counts."""
+    file, row = given["file"], row_of(result[0])
+    if row == 3:
+        return [f"version-{file[2]}-refused"]
+    if row == 6:
+        other = file[2] in VERSIONS[call] and len(file) - 2 == calculator.right_length(3 - file[2], file[3])
+        return [f"version-{file[2]}-other-length"] if other else []
+    if row == 16:
+        return [end for end, (_, holds) in SUM_ENDS.items() if holds(weights_of(file))]
+    if row == 13:
+        return room_ends(call, given)
+    starts = [end for end, (_, holds) in START_ENDS.items() if row in (0, 17) and file[2] == 2 and holds(weights_of(file))]
+    if row:
+        return starts
+    sizes = [end for end, M in (("1-state", 1), ("64-states", 64)) if file[3] == M]
+    return [f"version-{file[2]}", *starts, *sizes, *room_ends(call, given)]
+
+
+def drawn_files(call):
+    """What files of a call are drawn for beside its rows: {end: a function of rng that gives the file's bytes}."""
+    versions = VERSIONS[call]
+    makes = {f"version-{version}-refused": models.changed(base_fields, version=version) for version in (0, 3, 255)}
+    for version in versions:
+        fields = partial(base_fields, versions=(version,))
+        makes[f"version-{version}"] = models.changed(fields)
+        makes[f"version-{version}-other-length"] = models.bytewise(models.other_length, fields)
+    if 2 in versions:
+        for ends, kinds in ((SUM_ENDS, models.WRONG_SUMS), (START_ENDS, models.STARTS)):
+            makes.update((end, models.starting(kinds[kind], base_fields)) for end, (kind, _) in ends.items())
+        makes["64-largest-words"] = models.starting(models.WRONG_SUMS["largest-words"], models.states_64)
+    if len(versions) == 1:
+        makes[f"version-{3 - versions[0]}-refused"] = models.changed(partial(base_fields, versions=other_version(call)))
+        for end, base in (("1-state", models.single), ("64-states", models.states_64)):
+            makes[end] = models.changed(lambda rng, base=base: in_one_of(rng, versions, base(rng)))
+    return makes
+
+
+def of_file(rng, make, around):
+    """An input around a file."""
+    return around(rng, make(rng))
+
+
+def of_room(rng, call, end, around):
+    """An input around an accepted file, of version 2 where it can be, with a count at an end."""
+    given = around(rng, models.build(**base_fields(rng, VERSIONS[call][-1:])))
+    name, enough, other = rooms(call, given)
+    return {**given, name: ROOM_ENDS[end](enough, other)}
+
+
+def reaching(rng, call, end, make):
+    """An input that reaches an end: drawn until it does."""
+    while True:
+        given = make(rng)
+        if end in file_ends(call, given, outcome(calculator, call, given)):
+            return given
+
+
+def end_aims(call, around):
+    """(end, a function of rng) for each end of a call's files and counts."""
+    makes = {end: partial(of_file, make=make, around=around) for end, make in drawn_files(call).items()}
+    makes.update((end, partial(of_room, call=call, end=end, around=around)) for end in ROOM_ENDS)
+    return [(end, partial(reaching, call=call, end=end, make=make)) for end, make in makes.items()]
+
+
 # --- A mix ---------------------------------------------------------------------------------------------
 
-def aims(call, aimed, by_chance):
-    """Inputs of each row, accepted ones, and inputs of chance."""
+def aims(call, aimed, by_chance, around):
+    """Inputs of each row, accepted ones, those of each end, and inputs of chance."""
     return ([(f"row-{row:02d}", partial(aimed, row=row)) for row in ROWS[call]],
             [("accepted", partial(aimed, row=0))],
+            end_aims(call, around),
             [("by-chance", by_chance)])
 
 
-# What the inputs of a call are aimed at, in three parts: (name, a function of rng).
+def moving_aims(call):
+    return aims(call, *(partial(each, call=call) for each in (aimed_move, any_move, move_of)))
+
+
+# What the inputs of a call are aimed at, in parts: (name, a function of rng).
 AIMS = {
-    "calculate": aims("calculate", aimed_calculate, any_calculate),
-    "series": aims("series", aimed_series, any_series),
+    "calculate": aims("calculate", aimed_calculate, any_calculate, calculate_of),
+    "series": aims("series", aimed_series, any_series, series_of),
     "remainders": (
         [(f"{word}row-{row:02d}", partial(refused_remainders, row=row, outside=bool(word)))
          for word in ("", "outside-") for row in ROWS["remainders"]],
@@ -396,15 +597,14 @@ AIMS = {
          *((model, partial(of_model, model=model)) for model in MODELS),
          ("outside", outside_remainders)],
         [("given", given_remainders), ("by-chance", any_remainders)]),
+    "to_version_2": moving_aims("to_version_2"),
+    "to_version_1": moving_aims("to_version_1"),
 }
 
 # What a run has to reach beside the rows of a call's table.
-ENDS = {
-    "calculate": [],
-    "series": [],
-    "remainders": ["none", *(name for part in AIMS["remainders"] for name, _ in part
-                             if name != "by-chance" and not name.startswith("row-"))],
-}
+ENDS = {call: [name for part in parts for name, _ in part
+               if name not in ("accepted", "by-chance") and not name.startswith("row-")] for call, parts in AIMS.items()}
+ENDS["remainders"].insert(0, "none")
 
 
 def enough(call):
@@ -413,8 +613,11 @@ def enough(call):
 
 
 def cost(given):
-    """About the work of the reference for an input: the multiplications of its vectors, up to n where it has one."""
+    """About the work of the reference for an input: the multiplications of its vectors, up to n where it has one; none
+    for a file that is moved."""
     file = given["file"]
+    if "out" in given:
+        return 0
     longest = longest_time(file)
     if calculator.refusal(file, calculator.LENT_CELLS) not in (0, 12):
         return 0
@@ -424,42 +627,57 @@ def cost(given):
 
 
 def mixed(call, seed, count):
-    """Inputs of the three parts in turn, and of each part in its turn."""
+    """Inputs of the parts in turn, and of each part in its turn."""
     rng = random.Random(f"{call} {seed}")
     for index in range(count):
-        part = AIMS[call][index % 3]
-        name, make = part[index // 3 % len(part)]
+        turn, place = divmod(index, len(AIMS[call]))
+        part = AIMS[call][place]
+        name, make = part[turn % len(part)]
         given = make(rng)
         while cost(given) > CHEAP:
             given = make(rng)
         yield Input(f"{index:05d}-{name}", call, given)
 
 
+def mixed_with_large(call, large, seed, count):
+    """Every 150th input has 64 states."""
+    for index, each in enumerate(mixed(call, seed, count)):
+        if index % 150 == 100:
+            rng = random.Random(f"large {seed} {index}")
+            each = Input(f"{index:05d}-64-states", call, large(rng))
+        yield each
+
+
 def calculate_inputs(seed, count):
-    return mixed("calculate", seed, count)
+    return mixed_with_large("calculate", large_calculate, seed, count)
 
 
 def series_inputs(seed, count):
-    """Every 150th input has 64 states."""
-    for index, each in enumerate(mixed("series", seed, count)):
-        if index % 150 == 100:
-            rng = random.Random(f"large {seed} {index}")
-            each = Input(f"{index:05d}-64-states", "series", large_series(rng))
-        yield each
+    return mixed_with_large("series", large_series, seed, count)
 
 
 def remainders_inputs(seed, count):
     return mixed("remainders", seed, count)
 
 
-GENERATED = {"calculate": calculate_inputs, "series": series_inputs, "remainders": remainders_inputs}
+def to_version_2_inputs(seed, count):
+    return mixed("to_version_2", seed, count)
+
+
+def to_version_1_inputs(seed, count):
+    return mixed("to_version_1", seed, count)
+
+
+GENERATED = {"calculate": calculate_inputs, "series": series_inputs, "remainders": remainders_inputs,
+             "to_version_2": to_version_2_inputs, "to_version_1": to_version_1_inputs}
 
 
 # --- How often each row and each end is reached ---------------------------------------------------------
 
 def reached(call, given, result):
     """What an input with this result reaches: the row that its answer tells, or 0, and ends of its call."""
-    return [row_of(result[0]), *(remainders_ends(given, result) if call == "remainders" else [])]
+    ends = remainders_ends(given, result) if call == "remainders" else file_ends(call, given, result)
+    return [row_of(result[0]), *(end for end in ends if end in ENDS[call])]
 
 
 def tally(call, all_reached):

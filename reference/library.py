@@ -24,6 +24,7 @@ UNDER_WAY = os.path.join(FOLDER, "under-way.txt")     # the input of the call th
 TYPES = {"u8": ctypes.c_uint8, "u32": ctypes.c_uint32, "u64": ctypes.c_uint64}
 GUARD = 9                       # elements before and after a slice; odd, so that bytes start at an odd address
 PAINT = 0xA5A5_0000_0000_0000   # what stands in an element beforehand, and its place; no moment, no level
+PAINT_BYTE = 0x80               # the same of a byte, and the place's lower 7 bits: the bytes of a file are mostly small
 
 Parameter = namedtuple("Parameter", "name type slice written")
 
@@ -43,13 +44,16 @@ CALLS = {
     "calculate": parameters("file:u8[] cells:u64[]*"),
     "series": parameters("file:u8[] times:u32[] levels:u64[]* cells:u64[]*"),
     "remainders": parameters("file:u8[] state:u64 n:u64 r:u64 mean:u64* share:u64* mix:u64*"),
+    "to_version_2": parameters("file:u8[] out:u8[]*"),
+    "to_version_1": parameters("file:u8[] out:u8[]*"),
 }
 
 
 def painted(count, kind="u64", first=0, other=False):
     """What `count` elements hold beforehand, each a number of its own; or others, different at every place."""
     most = 2 ** (8 * ctypes.sizeof(TYPES[kind])) - 1
-    return [(PAINT + k ^ (most if other else 0)) & most for k in range(first, first + count)]
+    numbers = (PAINT_BYTE + k % 128 if kind == "u8" else (PAINT + k) & most for k in range(first, first + count))
+    return [number ^ most if other else number for number in numbers]
 
 
 # --- The shared object --------------------------------------------------------------------------
