@@ -519,8 +519,10 @@ def file_ends(call, given, result):
         return [end for end, (_, holds) in SUM_ENDS.items() if holds(weights_of(file))]
     if row == 13:
         return room_ends(call, given)
-    starts = [end for end, (_, holds) in START_ENDS.items() if row in (0, 17) and file[2] == 2 and holds(weights_of(file))]
-    if row:
+    if row not in (0, 17):
+        return []
+    starts = [end for end, (_, holds) in START_ENDS.items() if file[2] == 2 and holds(weights_of(file))]
+    if row == 17:
         return starts
     sizes = [end for end, M in (("1-state", 1), ("64-states", 64)) if file[3] == M]
     return [f"version-{file[2]}", *starts, *sizes, *room_ends(call, given)]
@@ -603,7 +605,8 @@ AIMS = {
 
 # What a run has to reach beside the rows of a call's table.
 ENDS = {call: [name for part in parts for name, _ in part
-               if name not in ("accepted", "by-chance") and not name.startswith("row-")] for call, parts in AIMS.items()}
+               if name not in ("accepted", "by-chance") and not name.startswith("row-")]
+        for call, parts in AIMS.items()}
 ENDS["remainders"].insert(0, "none")
 
 

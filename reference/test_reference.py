@@ -35,11 +35,22 @@ def put(file, start, size, value):
     return file[:start] + value.to_bytes(size, "big") + file[start + size:]
 
 
-# Document 01's small example of each row that a file can break.
+def starting(file, *weights):
+    """A version 1 file as one of version 2 with these starting weights."""
+    words = b"".join(weight.to_bytes(4, "big") for weight in weights)
+    return models.relength(put(file[:13], 2, 1, 2) + words + file[13:])
+
+
+# File B in version 2, worked out by hand: 0.25 * 0.71875 + 0.75 * 0.28125, and 0.25 * 0.6125 + 0.75 * 0.175.
+B2 = starting(B, 250_000, 750_000)
+B2_STARTS = [390625000000, 284375000000]
+B2_SHEET = B_SHEET + b"start 1 0.390625000000\nstart 2 0.284375000000\n"
+
+# A small example of each row that a file can break: document 01's, for 3 and 16 those of S-5.
 EXAMPLES = {
     1: b"",
     2: A[:-1],
-    3: put(A, 2, 1, 2),
+    3: put(A, 2, 1, 3),
     4: put(A, 3, 1, 0),
     5: put(A, 4, 1, 9),
     6: put(A, 3, 1, 2),
@@ -49,11 +60,12 @@ EXAMPLES = {
     10: put(A, 13, 4, 0),
     11: put(B, 21, 4, 10_000_001),
     12: put(B, 9, 4, 257),
+    16: starting(B, 250_000, 749_999),
 }
 
 
 def expected_row(name):
-    """The row a generated name tells: 1 to 13, 0 for accepted, None where it is left open."""
+    """The row a generated name tells, 0 for accepted, None where it is left open."""
     word = name.split("-")[1]
     if word.startswith("refused"):
         return int(word[7:])
@@ -105,15 +117,15 @@ class HandCheckedFiles(unittest.TestCase):
         self.assertEqual(U[2][2], [499999999999, 166666666666])
 
     def test_refused(self):
-        self.assertEqual(outcome(put(B, 13, 8, 0), 512), ("refused", 10))
-        self.assertEqual(outcome(put(put(B, 2, 1, 9), 3, 1, 0), 512), ("refused", 3))
-        self.assertEqual(outcome(put(B, 9, 4, 257), 512), ("refused", 12))
-        self.assertEqual(outcome(put(B, 5, 4, 100_000_001), 512), ("refused", 7))
+        self.assertEqual(outcome(put(B, 13, 8, 0), 520), ("refused", 10))
+        self.assertEqual(outcome(put(put(B, 2, 1, 9), 3, 1, 0), 520), ("refused", 3))
+        self.assertEqual(outcome(put(B, 9, 4, 257), 520), ("refused", 12))
+        self.assertEqual(outcome(put(B, 5, 4, 100_000_001), 520), ("refused", 7))
 
     def test_accepted(self):
-        self.assertEqual(outcome(put(B, 9, 4, 256), 512)[0], "level")
-        self.assertEqual(outcome(put(B, 21, 4, 10_000_000), 512)[0], "level")
-        self.assertEqual(outcome(put(B, 5, 4, 1), 512)[0], "level")
+        self.assertEqual(outcome(put(B, 9, 4, 256), 520)[0], "level")
+        self.assertEqual(outcome(put(B, 21, 4, 10_000_000), 520)[0], "level")
+        self.assertEqual(outcome(put(B, 5, 4, 1), 520)[0], "level")
         self.assertEqual(outcome(B, 4), ("level", 3))
 
 
@@ -122,7 +134,7 @@ class RefusalTable(unittest.TestCase):
     def test_small_examples(self):
         for row, file in EXAMPLES.items():
             with self.subTest(row=row):
-                self.assertEqual(outcome(file, 512), ("refused", row))
+                self.assertEqual(outcome(file, 520), ("refused", row))
                 self.assertEqual(sheet(file), b"refused %d\n" % row)
                 # Every earlier row counts before row 13.
                 self.assertEqual(outcome(file, 0), ("refused", row))
@@ -136,10 +148,10 @@ class RefusalTable(unittest.TestCase):
 
     def test_cells_stay_unchanged(self):
         for name, file in models.damaged_models(3, len(models.DAMAGE)):
-            cells = list(range(512))
+            cells = list(range(520))
             word, _ = calculator.calculate(file, cells)
             if word == "refused":
-                self.assertEqual(cells, list(range(512)), name)
+                self.assertEqual(cells, list(range(520)), name)
 
     def test_damage_reaches_its_row(self):
         reached = set()
@@ -151,7 +163,7 @@ class RefusalTable(unittest.TestCase):
                 reached.add(row)
             elif row == 0:
                 self.assertTrue(printed.startswith(b"level "), name)
-        self.assertEqual(reached, set(range(1, 13)))
+        self.assertEqual(reached, {*range(1, 13), 16})
 
     def test_generated_cells(self):
         for name, file, cells in models.few_cells_models(1, 60):
@@ -164,18 +176,20 @@ class RefusalTable(unittest.TestCase):
 
     def test_valid_models_are_accepted(self):
         for name, file in models.valid_models(1, 300):
-            word, N = outcome(file, 512)
+            word, N = outcome(file, 520)
             self.assertEqual(word, "level", name)
             self.assertLessEqual(N, 1024, name)
 
-    def test_only_16398_bytes_are_judged(self):
+    def test_only_16654_bytes_are_judged(self):
         # In full, 65 states are refused as such; the program reads too few bytes to see them.
-        full = models.full_size(65)
-        self.assertEqual(outcome(full, 512), ("refused", 4))
-        self.assertEqual(sheet(full), b"refused 2\n")
+        for version in (1, 2):
+            full = models.full_size(65, version)
+            self.assertEqual(outcome(full, 520), ("refused", 4))
+            self.assertEqual(sheet(full), b"refused 2\n")
+            self.assertTrue(sheet(models.full_size(64, version)).startswith(b"level "))
         # The largest accepted file is one byte below the reading limit.
+        self.assertEqual(len(models.full_size(64, 2)), 16653)
         self.assertEqual(len(models.full_size(64)), 16397)
-        self.assertTrue(sheet(models.full_size(64)).startswith(b"level "))
 
 
 class WhereHandSolutionsGoWrong(unittest.TestCase):
@@ -210,7 +224,7 @@ class WhereHandSolutionsGoWrong(unittest.TestCase):
         model = calculator.read_model(B)
         self.assertEqual(model.c, [[0, 1_000_000], [1_000_000, 0]])
         with_diagonal = models.build(1, 2, 2, 100_000_000, 1, [1, 0], [[0, 1_000_000], [1_000_000, 0]])
-        self.assertEqual(outcome(with_diagonal, 512), ("refused", 6))
+        self.assertEqual(outcome(with_diagonal, 520), ("refused", 6))
 
 
 class Level(unittest.TestCase):
@@ -345,10 +359,10 @@ class LastDivision(unittest.TestCase):
 
     def test_nearest_in_generated_models(self):
         for name, file in models.valid_models(5, 45):
-            cells = [None] * (file[3] * file[4])
+            cells = [None] * calculator.block_size(file)
             calculator.calculate(file, cells)
             divisions = last_divisions(file)
-            self.assertEqual(len(divisions), len(cells), name)
+            self.assertEqual(len(divisions), file[3] * file[4], name)
             for (A, S), ticks in zip(divisions, cells):
                 self.assertLessEqual(A, S, name)
                 self.check_nearest(A, S, ticks)
@@ -370,7 +384,7 @@ class LastDivision(unittest.TestCase):
         sides = set()
         for _ in range(60):
             file = models.build(**models.half_tick(rng))
-            self.assertEqual(outcome(file, 512), ("level", 1))
+            self.assertEqual(outcome(file, 520), ("level", 1))
             A, S = last_divisions(file)[0]
             quotient, left = divmod(A * ONE, S)
             off = 2 * left - S
@@ -400,7 +414,7 @@ class Series(unittest.TestCase):
 
     def blocks(self, file, times, levels=None, cells=None):
         """The levels and the blocks of an accepted list, cells past them left out; those keep what they hold."""
-        size = file[3] * file[4]
+        size = calculator.block_size(file)
         taken = len(times), len(times) * size
         lent = [list(range(100, 100 + (n if count is None else count))) for n, count in zip(taken, (levels, cells))]
         past = [part[n:] for n, part in zip(taken, lent)]
@@ -411,7 +425,7 @@ class Series(unittest.TestCase):
     def check_runs(self, name, file, times):
         """Each level and block is that of the file with this time in bytes 9 to 12."""
         for T, N, block in zip(times, *self.blocks(file, times)):
-            cells = [None] * (file[3] * file[4])
+            cells = [None] * calculator.block_size(file)
             self.assertEqual(calculator.calculate(put(file, 9, 4, T), cells), ("level", N), (name, T))
             self.assertEqual(cells, block, (name, T))
 
@@ -422,6 +436,12 @@ class Series(unittest.TestCase):
         # With q = 2, N = 4: the weights 1, 2, 2, 4/3, 2/3 sum to 7, and u(n,1) at state 1 is 1, 1/2, 2/3, 1/2, 3/5.
         by_hand = (1 + Fraction(2, 2) + 2 * Fraction(2, 3) + Fraction(4, 3) / 2 + Fraction(2, 3) * Fraction(3, 5)) / 7
         self.assertEqual((by_hand, blocks[1][0]), (Fraction(22, 35), 628571428571))
+
+    def test_B_in_version_2(self):
+        levels, blocks = self.blocks(B2, [1, 2, 256], 5, 30)
+        of_moments = self.blocks(B, [1, 2, 256])
+        self.assertEqual((levels, [block[:4] for block in blocks]), of_moments)
+        self.assertEqual(blocks[0][4:], B2_STARTS)
 
     def test_rows_1_to_7(self):
         for row in range(1, 8):
@@ -438,13 +458,13 @@ class Series(unittest.TestCase):
         for times in ([0], [0, 1], [0, 0], [0] * 9, [0, 2**32 - 1], [0] + self.NINE):
             self.refused(8, B, times)
             self.refused(8, B, times, 0, 0)
-            for row in (9, 10, 11):
+            for row in (16, 9, 10, 11):
                 self.refused(8, EXAMPLES[row], times)
             self.refused(7, put(B, 5, 4, 0), times)
         self.refused(15, B, [1, 0])            # the first time alone is judged by 8
 
-    def test_rows_9_to_11(self):
-        for row in (9, 10, 11):
+    def test_rows_16_and_9_to_11(self):
+        for row in (16, 9, 10, 11):
             for times in self.LISTS:
                 self.refused(row, EXAMPLES[row], times)
                 self.refused(row, EXAMPLES[row], times, 0, 0)
@@ -490,17 +510,20 @@ class Series(unittest.TestCase):
 
     def test_row_13(self):
         for times in ([1], [1, 2], [1, 2, 3, 4, 5, 6, 7, 8]):
-            enough = len(times), 4 * len(times)
-            self.blocks(B, times, *enough)
-            self.refused(13, B, times, enough[0] - 1, enough[1])
-            self.refused(13, B, times, enough[0], enough[1] - 1)
-            self.refused(13, B, times, 0, 10**4)
-            self.refused(13, B, times, 10**4, 0)
-            self.refused(13, B, times, 0, 0)
+            for file, size in ((B, 4), (B2, 6)):
+                enough = len(times), size * len(times)
+                self.blocks(file, times, *enough)
+                self.refused(13, file, times, enough[0] - 1, enough[1])
+                self.refused(13, file, times, enough[0], enough[1] - 1)
+                self.refused(13, file, times, 0, 10**4)
+                self.refused(13, file, times, 10**4, 0)
+                self.refused(13, file, times, 0, 0)
+            self.refused(13, B2, times, 8, 4 * len(times))      # cells for the moments alone
 
     def test_runs_of_small_files(self):
         self.check_runs("A", A, [1, 2, 1000, 256_000_000])
         self.check_runs("B", B, [1, 2, 3, 5, 8, 13, 21, 256])
+        self.check_runs("B2", B2, [1, 2, 3, 5, 8, 13, 21, 256])
         for name, file in models.valid_models(7, 60):
             if file[3]**2 * file[4] > 300:
                 continue
@@ -670,7 +693,7 @@ class Remainders(unittest.TestCase):
         """(name, file) of generated models with few divisions, one with 64 states."""
         large = models.build(**{**models.states_64(random.Random(4)), "R": 3})
         for name, file in (*models.valid_models(4, 90), ("64 states", large)):
-            _, N = outcome(file, 512)
+            _, N = outcome(file, 520)
             if file[3]**2 * file[4] * N <= 20_000:
                 yield name, file
 
@@ -704,6 +727,197 @@ class Remainders(unittest.TestCase):
                                  ("given", (line.rest_V, line.rest_W, line.rest_U)), (name, line))
 
 
+class Version2(unittest.TestCase):
+    """S-5: starting weights before the reward rates."""
+
+    def cells(self, file):
+        cells = [None] * calculator.block_size(file)
+        self.assertEqual(calculator.calculate(file, cells)[0], "level")
+        return cells
+
+    def refused(self, row, file, cells=520):
+        lent = list(range(cells))
+        self.assertEqual(calculator.calculate(file, lent), ("refused", row))
+        self.assertEqual(lent, list(range(cells)))
+
+    def test_B(self):
+        cells = [7] * 8
+        self.assertEqual(calculator.calculate(B2, cells), ("level", 3))
+        self.assertEqual(cells, self.cells(B) + B2_STARTS + [7, 7])
+        self.assertEqual(B2.hex(), "00230202" + B[4:13].hex() + "0003d090000b71b0" + B[13:].hex())
+
+    def test_versions_and_lengths(self):
+        self.refused(6, put(A, 2, 1, 2))                # the length of version 1
+        self.refused(6, put(B, 2, 1, 2))
+        self.refused(6, put(B2, 2, 1, 1))               # the length of version 2
+        for file in (A, B, B2):
+            for version in (0, 3, 4, 127, 128, 255):
+                self.refused(3, put(file, 2, 1, version))
+                self.refused(3, put(put(file, 2, 1, version), 3, 8, 0))
+
+    def test_sums(self):
+        for weights in ((0, 0), (1_000_000, 1), (999_999, 0), (0, 999_999), (1, 1_000_000), (500_000, 500_001),
+                        (1_000_000, 1_000_000), (2**32 - 1, 1_000_001), (1_000_001, 2**32 - 1), (2**32 - 1, 2**32 - 1)):
+            self.refused(16, starting(B, *weights))
+        for weight in (0, 1, 999_999, 1_000_001, 2**32 - 1):
+            self.refused(16, starting(A, weight))
+        full = models.full_size(64)
+        self.refused(16, starting(full, *[2**32 - 1] * 64))
+        for times in (1, 32, 63):                       # 1,000,000 in 32 bits
+            self.refused(16, starting(full, *[2**32 - 1] * times, 1_000_000 + times, *[0] * (63 - times)))
+        self.cells(starting(full, *[15_625] * 64))
+
+    def test_order(self):
+        """16 with each row before it and behind it."""
+        wrong = EXAMPLES[16]
+        for row, file in ((1, wrong[:12]), (2, wrong + b"\0"), (3, put(wrong, 2, 1, 3)), (4, put(wrong, 3, 1, 65)),
+                          (5, put(wrong, 4, 1, 9)), (6, models.relength(wrong + b"\0")), (7, put(wrong, 5, 4, 0)),
+                          (8, put(wrong, 9, 4, 0)), (16, put(wrong, 21, 4, 1_000_001)), (16, put(wrong, 21, 8, 0)),
+                          (16, put(wrong, 29, 4, 10_000_001)), (16, put(wrong, 9, 4, 257))):
+            self.refused(row, file)
+            self.refused(row, file, 0)
+            self.assertEqual(calculator.rests(file, 1, 1, 1), ("refused", row))
+        for row, file in ((9, put(B2, 21, 4, 1_000_001)), (10, put(B2, 21, 8, 0)), (11, put(B2, 29, 4, 10_000_001)),
+                          (12, put(B2, 9, 4, 257))):
+            self.refused(row, file)
+            self.refused(row, file, 0)
+
+    def test_cells(self):
+        for cells in range(6):                          # 4 are enough for the moments alone
+            self.refused(13, B2, cells)
+        self.assertEqual(outcome(B2, 6), ("level", 3))
+        largest = models.build(**models.in_version_2(
+            dict(models.states_64(random.Random(1)), R=8), models.on_one(64, 63)))
+        self.refused(13, largest, 519)
+        self.assertEqual(outcome(largest, 520)[0], "level")
+
+    def test_down(self):
+        # 333,333 * 718,750,000,000 + 666,667 * 281,250,000,000 is 427,083,187,500 and 0 over 1,000,000; with r = 2
+        # 333,333 * 612,500,000,000 + 666,667 * 175,000,000,000 is 320,833,187,500.
+        self.assertEqual(self.cells(starting(B, 333_333, 666_667))[4:], [427083187500, 320833187500])
+        # Moments ONE - 1 and ONE: a half and more of a tick go down.
+        model = calculator.read_model(starting(B, 500_000, 500_000))._replace(R=1)
+        self.assertEqual(calculator.start_figures(model, [ONE - 1, ONE]), [ONE - 1])
+        model = calculator.read_model(starting(B, 1, 999_999))._replace(R=1)
+        self.assertEqual(calculator.start_figures(model, [ONE - 1, ONE]), [ONE - 1])
+        self.assertEqual(calculator.start_figures(model, [0, 1]), [0])
+
+    def test_laws(self):
+        """Level and moments are those of version 1; a start figure lies between the moments of the states with weight,
+        within a tick of their weighted sum; with all weight on one state it is that state's moment."""
+        inexact = 0
+        for name, file in models.valid_models(6, 120):
+            if file[2] == 1 or file[3]**2 * file[4] > 500:
+                continue
+            M, R, model, cells = file[3], file[4], calculator.read_model(file), self.cells(file)
+            bare = calculator.as_version_1(file)
+            self.assertEqual((outcome(bare, 520), self.cells(bare)), (outcome(file, 520), cells[:M * R]), name)
+            for r in range(R):
+                moments, figure = cells[r:M * R:R], cells[M * R + r]
+                weighted = sum(weight * moment for weight, moment in zip(model.a, moments))
+                self.assertTrue(figure * 10**6 <= weighted < (figure + 1) * 10**6, name)
+                held = [moment for weight, moment in zip(model.a, moments) if weight]
+                self.assertTrue(min(held) <= figure <= max(held), name)
+                inexact += weighted % 10**6 > 0
+                for i in range(M):
+                    alone = model._replace(a=models.on_one(M, i))
+                    self.assertEqual(calculator.start_figures(alone, cells)[r], moments[i], name)
+        self.assertGreater(inexact, 20)
+
+    def test_remainders_do_not_look_at_the_weights(self):
+        for weights in ((250_000, 750_000), (0, 1_000_000)):
+            self.assertEqual(calculator.worked(starting(B, *weights)), calculator.worked(B))
+        self.assertEqual(calculator.rests(B2, 1, 3, 1), calculator.rests(B, 1, 3, 1))
+
+
+class Converter(unittest.TestCase):
+    """S-5: from one version to the other."""
+
+    def move(self, move, file, room):
+        """The result, and the bytes after it, which were FF."""
+        out = [255] * room
+        return move(file, out), bytes(out)
+
+    def moved(self, move, file, right):
+        """The file is moved, into just the bytes that it takes and into more; into fewer it is not."""
+        for more in (0, 1, 40):
+            self.assertEqual(self.move(move, file, len(right) + more), (("bytes", len(right)), right + b"\xff" * more))
+        for room in (len(right) - 1, 13, 12, 1, 0):
+            self.kept(13, move, file, room)
+
+    def kept(self, row, move, file, room=20_000):
+        self.assertEqual(self.move(move, file, room), (("refused", row), b"\xff" * room), file.hex())
+
+    def there_and_back(self, file):
+        """Moves a version 1 file to version 2 and back; its form in version 2."""
+        other = starting(file, *models.on_one(file[3], 0))
+        self.moved(calculator.to_version_2, file, other)
+        self.moved(calculator.to_version_1, other, file)
+        return other
+
+    def test_A_and_B(self):
+        self.assertEqual(self.there_and_back(A).hex(), "0013020101000027100000000100" "0f424000000005")
+        other = self.there_and_back(B)
+        self.assertEqual(other.hex(), "002302020205f5e10000000001000f424000000000000000010000000000" "0f4240000f4240")
+        self.assertEqual(sheet(other), B_SHEET + b"start 1 0.718750000000\nstart 2 0.612500000000\n")
+        self.assertEqual(len(self.there_and_back(models.full_size(64))), 16653)
+
+    def test_generated(self):
+        """There and back; level and moments stay, and the start figures are the moments of state 1."""
+        for name, file in models.valid_models(9, 150):
+            if file[2] == 2 or file[3]**2 * file[4] > 500:
+                continue
+            other = self.there_and_back(file)
+            cells = [0] * 520
+            self.assertEqual(calculator.calculate(other, cells), outcome(file, 520), name)
+            moments = [0] * (file[3] * file[4])
+            calculator.calculate(file, moments)
+            self.assertEqual(cells[:len(moments) + file[4]], moments + moments[:file[4]], name)
+
+    def test_versions(self):
+        for version in (0, 2, 3, 255):
+            for file in (put(B, 2, 1, version), put(B2, 2, 1, version), put(put(B, 2, 1, version), 3, 6, 0)):
+                self.kept(3, calculator.to_version_2, file)
+                self.kept(3, calculator.to_version_2, file, 0)
+        for version in (0, 1, 3, 255):
+            for file in (put(B2, 2, 1, version), put(B, 2, 1, version), put(EXAMPLES[16], 2, 1, version)):
+                self.kept(3, calculator.to_version_1, file)
+                self.kept(3, calculator.to_version_1, file, 0)
+        self.kept(6, calculator.to_version_2, put(B2, 2, 1, 1))
+        self.kept(6, calculator.to_version_1, put(B, 2, 1, 2))
+
+    def test_rows(self):
+        """Rows 1 to 12 come before 17 and 13, whatever room there is."""
+        for row, file in EXAMPLES.items():
+            if row != 16:                               # the only one of version 2
+                for room in (0, 20_000):
+                    self.kept(row, calculator.to_version_2, file, room)
+        first, last = starting(B, 1_000_000, 0), starting(B, 0, 1_000_000)
+        for file in (first, last):
+            for row, broken in ((1, file[:12]), (2, file + b"\0"), (4, put(file, 3, 1, 0)), (5, put(file, 4, 1, 0)),
+                                (6, models.relength(file + b"\0")), (7, put(file, 5, 4, 100_000_001)),
+                                (8, put(file, 9, 4, 0)), (16, put(file, 17, 4, 1_000_001)),
+                                (9, put(file, 21, 4, 1_000_001)), (10, put(file, 21, 8, 0)),
+                                (11, put(file, 33, 4, 10_000_001)), (12, put(file, 9, 4, 257))):
+                for room in (0, 20_000):
+                    self.kept(row, calculator.to_version_1, broken, room)
+        for room in (0, 28, 29, 20_000):
+            self.kept(17, calculator.to_version_1, last, room)
+        self.kept(13, calculator.to_version_1, first, 28)
+
+    def test_weight_elsewhere(self):
+        file = models.build(1, 3, 1, 100, 1, [1, 2, 3], [[1, 1]] * 3)
+        for weights in ((0, 1_000_000, 0), (0, 0, 1_000_000), (999_999, 1, 0), (999_999, 0, 1), (1, 999_998, 1)):
+            self.kept(17, calculator.to_version_1, starting(file, *weights))
+        for weights in ((1_000_000, 1, 0), (0, 0, 0), (1_000_000, 2**32 - 1, 1), (999_999, 0, 0)):
+            self.kept(16, calculator.to_version_1, starting(file, *weights))
+        self.there_and_back(file)
+
+    def test_answers(self):
+        self.assertEqual(calculator.answer(self.move(calculator.to_version_2, B, 37)[0]), 37)
+        self.assertEqual(calculator.answer(self.move(calculator.to_version_1, B2, 37)[0]), 1_000_017)
+
+
 class ExactAverage(unittest.TestCase):
 
     def test_average_of_B(self):
@@ -717,20 +931,26 @@ class ExactAverage(unittest.TestCase):
         rows = calculator.averages(calculator.read_model(B), [3])[3]
         self.assertEqual([Fraction(ticks, ONE) for ticks in cells], rows[0] + rows[1])
 
+    def check_distance(self, where, ticks, average, tolerance, most_ticks):
+        self.assertTrue(0 <= ticks <= ONE, where)
+        self.assertLessEqual(abs(Fraction(ticks, ONE) - average), tolerance + Fraction(most_ticks, ONE), where)
+
     def check_demand_3(self, name, file):
-        """Each printed moment against the average up to N and beyond."""
+        """Each printed moment against the average up to N and beyond, and each start figure against these weighted,
+        where one tick more may be."""
         model = calculator.read_model(file)
-        cells = [None] * (model.M * model.R)
+        cells = [None] * calculator.block_size(file)
         _, N = calculator.calculate(file, cells)
         averages = calculator.averages(model, [N, N + 1, N + 7, N + 25])
         for L, rows in averages.items():
             tolerance = Fraction(model.epsilon, 10**9) if L > N else 0
-            for i in range(model.M):
-                for r in range(1, model.R + 1):
-                    ticks = cells[i * model.R + r - 1]
-                    self.assertTrue(0 <= ticks <= ONE, name)
-                    distance = abs(Fraction(ticks, ONE) - rows[i][r - 1])
-                    self.assertLessEqual(distance, tolerance + Fraction(3 * N + 2 * r + 3, ONE), (name, L, i, r))
+            for r in range(1, model.R + 1):
+                for i in range(model.M):
+                    self.check_distance((name, L, i, r), cells[i * model.R + r - 1], rows[i][r - 1],
+                                        tolerance, 3 * N + 2 * r + 3)
+                if model.a:
+                    self.check_distance((name, L, "start", r), cells[model.M * model.R + r - 1],
+                                        calculator.start_averages(model, rows)[r - 1], tolerance, 3 * N + 2 * r + 4)
 
     def test_demand_3_on_small_models(self):
         for seed in range(100):
@@ -739,12 +959,12 @@ class ExactAverage(unittest.TestCase):
             E = rng.choice([models.log_uniform(rng, 1, 10_000_000), 10_000_000, 1_000_000, 3])
             T = models.log_uniform(rng, 1, max(1, 20_000_000 // E))
             fields = models.fields_for(rng, M, E, T, R=rng.randint(1, 5))
-            self.check_demand_3(f"seed {seed}", models.build(**fields))
+            self.check_demand_3(f"seed {seed}", models.build(**models.in_either_version(rng, fields)))
 
     def test_demand_3_on_valid_models(self):
         checked = 0
         for name, file in models.valid_models(3, 250):
-            _, N = outcome(file, 512)
+            _, N = outcome(file, 520)
             if file[3]**2 * file[4] * N <= 4000:       # M * M * R * N: few enough fractions
                 self.check_demand_3(name, file)
                 checked += 1
@@ -753,6 +973,12 @@ class ExactAverage(unittest.TestCase):
     def test_demand_3_at_q_256(self):
         file = models.build(1, 2, 2, 1, 256, [3, 1], [[1_000_000], [700_000]])
         self.check_demand_3("q 256", file)
+        self.check_demand_3("q 256, a start", starting(file, 333_333, 666_667))
+
+    def test_start_average_of_B(self):
+        model = calculator.read_model(starting(B, 1, 999_999))
+        rows = calculator.averages(model, [3])[3]
+        self.assertEqual(calculator.start_averages(model, rows)[0], Fraction(23 + 999_999 * 9, 32 * 10**6))
 
 
 class EditedDemand3(unittest.TestCase):
@@ -791,11 +1017,17 @@ class Printing(unittest.TestCase):
             lines = sheet(file).decode("ascii").split("\n")
             self.assertEqual(lines.pop(), "", name)
             M, R = file[3], file[4]
-            self.assertEqual(len(lines), 1 + M * R, name)
+            firsts = [*range(1, M + 1), *(["start"] if file[2] == 2 else [])]
+            self.assertEqual(len(lines), 1 + len(firsts) * R, name)
             for k, line in enumerate(lines[1:]):
-                self.assertRegex(line, r"\A[0-9]+ [0-9] [01]\.[0-9]{12}\Z")
-                self.assertTrue(line.startswith(f"{k // R + 1} {k % R + 1} "), name)
+                self.assertRegex(line, r"\A([0-9]+|start) [0-9] [01]\.[0-9]{12}\Z")
+                self.assertTrue(line.startswith(f"{firsts[k // R]} {k % R + 1} "), name)
                 self.assertLessEqual(line.split()[2], "1.000000000000")
+
+    def test_lines_of_a_start(self):
+        self.assertEqual(sheet(B2), B2_SHEET)
+        self.assertEqual(sheet(starting(A, 1_000_000)), b"level 1\n1 1 1.000000000000\nstart 1 1.000000000000\n")
+        self.assertEqual(sheet(EXAMPLES[16]), b"refused 16\n")
 
 
 class Examples(unittest.TestCase):
@@ -837,6 +1069,10 @@ class Program(unittest.TestCase):
     def test_long_input(self):
         result = self.run_program([], models.full_size(64) + bytes(100_000))
         self.assertEqual((result.returncode, result.stdout), (0, b"refused 2\n"))
+
+    def test_version_2(self):
+        result = self.run_program([], B2)
+        self.assertEqual((result.returncode, result.stdout, result.stderr), (0, B2_SHEET, b""))
 
     def test_wrong_arguments(self):
         for arguments in (["no-such-file"], ["--wrong"], ["a", "b"], [HERE]):
