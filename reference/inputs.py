@@ -149,11 +149,11 @@ def row_of(answer):
     return max(0, answer - calculator.REFUSED)
 
 
-def and_later(rng, call, row):
+def and_later(rng, call, row, next_too):
     """A row and the next one in the call's table, or up to three that come after it; none comes after row 0, which is
     no row."""
     later = ROWS[call][ROWS[call].index(row) + 1:] if row else []
-    if rng.random() < 0.4:
+    if next_too:
         return {row, *later[:1]}
     return {row} | set(rng.sample(later, rng.randint(0, min(3, len(later)))))
 
@@ -226,11 +226,11 @@ def edge_series(rng):
                 cells=at_least(rng, len(times) * need(file)))
 
 
-def aimed_series(rng, row):
+def aimed_series(rng, row, next_too=False):
     """An input that breaks this row and some that come after it; row 0: none."""
     if row == 0 and rng.random() < 0.3:
         return edge_series(rng)
-    rows = and_later(rng, "series", row)
+    rows = and_later(rng, "series", row, next_too)
     in_list = rows & {12, 14, 15} | ({8} & rows if rng.random() < 0.5 else set())
     in_file = rows & {*range(1, 12), 16} - in_list
     file = broken_file(rng, "series", in_file)
@@ -268,9 +268,9 @@ def large_series(rng):
 
 # --- Inputs of calculate ------------------------------------------------------------------------------
 
-def aimed_calculate(rng, row):
+def aimed_calculate(rng, row, next_too=False):
     """An input that breaks this row and some that come after it; row 0: none."""
-    rows = and_later(rng, "calculate", row)
+    rows = and_later(rng, "calculate", row, next_too)
     file = broken_file(rng, "calculate", rows)
     return dict(file=file, cells=room(rng, need(file), 13 in rows))
 
@@ -292,9 +292,9 @@ def large_calculate(rng):
 
 # --- Inputs of to_version_2 and to_version_1 ----------------------------------------------------------
 
-def aimed_move(rng, call, row):
+def aimed_move(rng, call, row, next_too=False):
     """An input that breaks this row and some that come after it; row 0: none."""
-    rows = and_later(rng, call, row)
+    rows = and_later(rng, call, row, next_too)
     file = broken_file(rng, call, rows)
     return dict(file=file, out=room(rng, moved_length(call, file), 13 in rows))
 
@@ -411,8 +411,9 @@ def any_number(rng, limit):
 
 
 def refused_remainders(rng, row, outside):
-    """An input that breaks this row and some that come after it, with numbers that every file has, or none has."""
-    file = broken_file(rng, "remainders", and_later(rng, "remainders", row))
+    """An input that breaks this row and the next one, with numbers that every file has, or some that come after it, with
+    numbers that none has."""
+    file = broken_file(rng, "remainders", and_later(rng, "remainders", row, not outside))
     return asked(file, **(all_beyond(rng, MOST) if outside else dict.fromkeys(NUMBERS, 1)))
 
 
@@ -428,8 +429,7 @@ def at_place(rng, name, place):
 def of_model(rng, model):
     """An input that reaches one of MODELS: drawn until it does."""
     while True:
-        file = models.build(**models.in_either_version(rng, MODELS[model](rng)))
-        given = asked(file, **within(rng, limits(file)))
+        given = remainders_of(rng, models.build(**models.in_either_version(rng, MODELS[model](rng))))
         if model in remainders_ends(given, outcome(calculator, "remainders", given)):
             return given
 
@@ -443,7 +443,11 @@ def outside_remainders(rng):
 def given_remainders(rng):
     """An accepted file, mostly one that leaves rests nearly everywhere, with numbers within their limits."""
     fields = rng.choice([near_largest, models.large_primes, rng.choice(models.SMALL_KINDS)])(rng)
-    file = models.build(**models.in_either_version(rng, fields))
+    return remainders_of(rng, models.build(**models.in_either_version(rng, fields)))
+
+
+def remainders_of(rng, file):
+    """A file with numbers within its limits."""
     return asked(file, **within(rng, limits(file)))
 
 
@@ -501,6 +505,8 @@ def rooms(call, given):
 
 def room_ends(call, given):
     """Which of ROOM_ENDS an input reaches whose file is not refused; of cells in version 2 alone."""
+    if call == "remainders":
+        return []
     name, enough, other = rooms(call, given)
     if (name == "cells" and given["file"][2] == 1) or given.get("levels", LARGEST) < len(given.get("times", [])):
         return []
@@ -567,20 +573,26 @@ def reaching(rng, call, end, make):
             return given
 
 
-def end_aims(call, around):
-    """(end, a function of rng) for each end of a call's files and counts."""
-    makes = {end: partial(of_file, make=make, around=around) for end, make in drawn_files(call).items()}
-    makes.update((end, partial(of_room, call=call, end=end, around=around)) for end in ROOM_ENDS)
-    return [(end, partial(reaching, call=call, end=end, make=make)) for end, make in makes.items()]
+def file_aims(call, around):
+    """(end, a function of rng) for each end of a call's files."""
+    return [(end, partial(reaching, call=call, end=end, make=partial(of_file, make=make, around=around)))
+            for end, make in drawn_files(call).items()]
+
+
+def room_aims(call, around):
+    """The same for its counts."""
+    return [(end, partial(of_room, call=call, end=end, around=around)) for end in ROOM_ENDS]
 
 
 # --- A mix ---------------------------------------------------------------------------------------------
 
 def aims(call, aimed, by_chance, around):
-    """Inputs of each row, accepted ones, those of each end, and inputs of chance."""
-    return ([(f"row-{row:02d}", partial(aimed, row=row)) for row in ROWS[call]],
+    """Inputs of each row with later ones, and with the next one, accepted inputs, those of each end, and inputs of
+    chance."""
+    return ([(f"{word}row-{row:02d}", partial(aimed, row=row, next_too=bool(word)))
+             for word in ("", "next-") for row in ROWS[call]],
             [("accepted", partial(aimed, row=0))],
-            end_aims(call, around),
+            file_aims(call, around) + room_aims(call, around),
             [("by-chance", by_chance)])
 
 
@@ -598,14 +610,15 @@ AIMS = {
         [*((f"{name}-{place}", partial(at_place, name=name, place=place)) for name in NUMBERS for place in PLACES),
          *((model, partial(of_model, model=model)) for model in MODELS),
          ("outside", outside_remainders)],
-        [("given", given_remainders), ("by-chance", any_remainders)]),
+        [("given", given_remainders), ("by-chance", any_remainders)],
+        [(f"file-{end}", make) for end, make in file_aims("remainders", remainders_of)]),
     "to_version_2": moving_aims("to_version_2"),
     "to_version_1": moving_aims("to_version_1"),
 }
 
-# What a run has to reach beside the rows of a call's table.
+# What a run has to reach beside the rows of a call's table; of remainders, that of its numbers and models alone.
 ENDS = {call: [name for part in parts for name, _ in part
-               if name not in ("accepted", "by-chance") and not name.startswith("row-")]
+               if name not in ("accepted", "by-chance") and not name.startswith(("row-", "next-row-", "file-"))]
         for call, parts in AIMS.items()}
 ENDS["remainders"].insert(0, "none")
 

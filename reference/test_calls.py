@@ -2,6 +2,7 @@
 """Tests of the library's calls from Python and of their generated inputs: python3 reference/test_calls.py"""
 
 import contextlib
+import functools
 import io
 import os
 import subprocess
@@ -24,9 +25,11 @@ import call_cases  # noqa: E402
 import call_mistakes  # noqa: E402
 import call_mutants  # noqa: E402
 import cases  # noqa: E402
+import mutants  # noqa: E402
 import run_calls  # noqa: E402
 from inputs import MOST, NUMBERS, asked, limits  # noqa: E402
-from library import GUARD, PAINT  # noqa: E402
+from library import GUARD, PAINT, PAINT_BYTE  # noqa: E402
+from mistakes import wrong  # noqa: E402
 
 B = bytes.fromhex("001B01020205F5E100000000010000000100000000000F4240000F4240")
 
@@ -62,6 +65,16 @@ uint64_t kuldrepso_remainders(uint8_t *file, size_t file_length, uint64_t state,
     if (r != 0) *mix = r;
     return 10 * file_length;
 }
+uint64_t kuldrepso_to_version_2(uint8_t *file, size_t file_length, uint8_t *out, size_t out_length) {
+    switch (file[0]) {
+    case 1: out[out_length] = 7; break;
+    case 2: out[-1] = 7; break;
+    case 3: file[2] = 7; break;
+    case 4: file[file_length] = 7; break;
+    }
+    if (out_length > 2) out[2] = 2;
+    return 10 * file_length + out_length;
+}
 uint64_t kuldrepso_probe(uint32_t number, uint8_t *out, size_t out_count) {
     if (out_count > 1) out[0] = 200, out[1] = (uint8_t)number;
     return number + out_count;
@@ -91,13 +104,15 @@ def worked_line(given):
 
 
 class Reference:
-    """A library that is the reference itself; `before` may change what a call is given, `after` what it gives."""
+    """A library that is the reference itself, or a module like it; `before` may change what a call is given, `after`
+    what it gives."""
 
-    def __init__(self, before=lambda given: given, after=lambda given, answer, written: (answer, written)):
-        self.before, self.after = before, after
+    def __init__(self, before=lambda given: given, after=lambda given, answer, written: (answer, written),
+                 program=calculator):
+        self.before, self.after, self.program = before, after, program
 
     def call(self, name, given):
-        return (*self.after(given, *inputs.outcome(calculator, name, self.before(given))), [])
+        return (*self.after(given, *inputs.outcome(self.program, name, self.before(given))), [])
 
 
 class Inputs(unittest.TestCase):
@@ -108,31 +123,37 @@ class Inputs(unittest.TestCase):
                 found, aim = reached(call, given), name[6:]
                 if "row-" in aim:
                     self.assertEqual(found[0], int(aim[-2:]), name)
-                elif aim != "by-chance":
+                elif aim in ("accepted", "64-states") or (call == "remainders" and aim in inputs.ENDS[call]):
                     self.assertEqual(found[0], 0, name)
+                if aim.startswith("file-"):
+                    self.assertIn(aim[5:], inputs.file_ends(call, given, inputs.outcome(calculator, call, given)), name)
                 if aim in inputs.ENDS[call]:
                     self.assertIn(aim, found, name)
 
     def test_each_row_and_end_is_reached(self):
         for call in library.CALLS:
-            found = all_reached(call, 3, 6 * inputs.enough(call))
-            self.assertGreater(min(inputs.tally(call, found).values()), 5, call)
+            found = all_reached(call, 3, 2 * inputs.enough(call))
+            self.assertGreater(min(inputs.tally(call, found).values()), 1, call)
             self.assertLessEqual(set(found), {0, *inputs.ROWS[call], *inputs.ENDS[call]}, call)
-            for seed in range(20, 22):
-                self.assertTrue(all(inputs.tally(call, all_reached(call, seed, inputs.enough(call))).values()), call)
+            self.assertTrue(all(inputs.tally(call, all_reached(call, 20, inputs.enough(call))).values()), call)
 
     def test_rows_are_those_of_the_papers(self):
-        self.assertEqual(inputs.ROWS["calculate"], list(range(1, 14)))
-        self.assertEqual(inputs.ROWS["series"], [1, 2, 3, 4, 5, 6, 7, 8, 9, 10, 11, 14, 15, 12, 13])
-        self.assertEqual(inputs.ROWS["remainders"], list(range(1, 13)))
+        to_8 = [1, 2, 3, 4, 5, 6, 7, 8]
+        self.assertEqual(inputs.ROWS["calculate"], to_8 + [16, 9, 10, 11, 12, 13])
+        self.assertEqual(inputs.ROWS["series"], to_8 + [16, 9, 10, 11, 14, 15, 12, 13])
+        self.assertEqual(inputs.ROWS["remainders"], to_8 + [16, 9, 10, 11, 12])
+        self.assertEqual(inputs.ROWS["to_version_2"], to_8 + [9, 10, 11, 12, 13])
+        self.assertEqual(inputs.ROWS["to_version_1"], to_8 + [16, 9, 10, 11, 12, 17, 13])
         for call, rows in inputs.ROWS.items():
             self.assertGreaterEqual(inputs.enough(call), 3 * len(rows))
 
     def test_tally_words(self):
-        for call, ends in (("calculate", ""), ("remainders", "; 39 ends, each at least 1 times")):
+        for call, ends in (("calculate", 25), ("series", 25), ("remainders", 40), ("to_version_2", 13),
+                           ("to_version_1", 26)):
             counts = inputs.tally(call, [0, *inputs.ROWS[call], *inputs.ENDS[call], 2, 2])
             words = ", ".join(f"{row}: {3 if row == 2 else 1}" for row in inputs.ROWS[call])
-            self.assertEqual(inputs.tally_words(call, counts), f"accepted 1; refused {words}{ends}")
+            self.assertEqual(inputs.tally_words(call, counts),
+                             f"accepted 1; refused {words}; {ends} ends, each at least 1 times")
 
     def test_same_seed_same_inputs(self):
         for call in library.CALLS:
@@ -157,8 +178,8 @@ class Inputs(unittest.TestCase):
     def test_own_time_and_list(self):
         """Row 12 holds for the file's own time and not for the list, and the other way round."""
         own = listed = both = 0
-        for given in given_all(1, 400):
-            by_list = inputs.row_of(inputs.outcome(calculator, "series", given)[0])
+        for given in given_all(1, 800):
+            by_list = calculator.series_refusal(*map(given.get, ("file", "times", "levels", "cells")))
             by_file = calculator.refusal(given["file"], 10**6)
             own += (by_file, by_list) == (12, 0)
             listed += (by_file, by_list) == (0, 12)
@@ -170,11 +191,62 @@ class Inputs(unittest.TestCase):
         for given in given_all(1, 400):
             if given["times"] and calculator.series_refusal(given["file"], given["times"], 9, 10**6) == 0:
                 short["levels"].add(given["levels"] - len(given["times"]))
-                short["cells"].add(given["cells"] - len(given["times"]) * given["file"][3] * given["file"][4])
+                short["cells"].add(given["cells"] - len(given["times"]) * inputs.need(given["file"]))
         for name, off in short.items():
             self.assertLessEqual({-1, 0, 1}, off, name)
             self.assertLess(min(off), -2, name)
             self.assertGreater(max(off), 5, name)
+
+
+class Version2Inputs(unittest.TestCase):
+
+    @classmethod
+    def setUpClass(cls):
+        """For each call the row that each of some inputs reaches, with its file."""
+        cls.files = {call: [(reached(call, given)[0], given["file"]) for given in given_all(1, 400, call)]
+                     for call in library.CALLS}
+
+    def weights(self, call, *rows):
+        """The starting weights of version 2 files that these rows stop, or none for 0."""
+        return [inputs.weights_of(file) for row, file in self.files[call] if row in rows and file[2] == 2]
+
+    def test_sums(self):
+        for call in ("calculate", "series", "remainders", "to_version_1"):
+            found = [sum(weights) for weights in self.weights(call, 16)]
+            for word, holds in (("0", lambda total: total == 0),
+                                ("one below", lambda total: total == 999_999),
+                                ("one above", lambda total: total == 1_000_001),
+                                ("past 2^32", lambda total: total >= 2**32),
+                                ("right in 32 bits", lambda total: total % 2**32 == 10**6)):
+                self.assertGreater(sum(map(holds, found)), 2, (call, word))
+
+    def test_starts(self):
+        for call in ("calculate", "series", "remainders", "to_version_1"):
+            found = self.weights(call, 0, 17)
+            for end, (_, holds) in inputs.START_ENDS.items():
+                self.assertGreater(sum(map(holds, found)), 4, (call, end))
+
+    def test_versions(self):
+        for call, versions in inputs.VERSIONS.items():
+            for row in (0, 7, 12):
+                found = Counter(file[2] for each, file in self.files[call] if each == row)
+                self.assertEqual(set(found), set(versions), (call, row))
+            refused = {file[2] for row, file in self.files[call] if row == 3}
+            self.assertLessEqual({0, 3, 255} | {1, 2} - set(versions), refused, call)
+            self.assertFalse(refused & set(versions), call)
+
+    def test_moved_there_and_back(self):
+        """The accepted files of either call, moved and moved back."""
+        for call, back in (("to_version_2", "to_version_1"), ("to_version_1", "to_version_2")):
+            moved = 0
+            for given in given_all(2, 300, call):
+                count, written = inputs.outcome(calculator, call, given)
+                if count < calculator.REFUSED:
+                    other = bytes(written["out"][:count])
+                    again, bytes_of = inputs.outcome(calculator, back, dict(file=other, out=len(given["file"])))
+                    self.assertEqual((again, bytes(bytes_of["out"])), (len(given["file"]), given["file"]))
+                    moved += 1
+            self.assertGreater(moved, 80)
 
 
 class RemaindersInputs(unittest.TestCase):
@@ -199,7 +271,7 @@ class RemaindersInputs(unittest.TestCase):
         self.assertEqual(self.ends(B, 0, 4, 3), [0, "none", "outside"])
         self.assertEqual(self.ends(b"", 64, 0, 0), [1])
         self.assertEqual(self.ends(b"", 65, 1025, 9), [1, "outside-row-01"])
-        self.assertEqual(len(set(inputs.ENDS["remainders"])), 2 + 1 + 12 + 18 + 6)
+        self.assertEqual(len(set(inputs.ENDS["remainders"])), 2 + 1 + 13 + 18 + 6)
 
     def test_models(self):
         for M, rewards, rates, state, found in (
@@ -244,12 +316,12 @@ class Cases(unittest.TestCase):
 
     def test_element_written_with_the_number_that_it_has(self):
         with mock.patch.dict(library.CALLS, PROBE):
-            result = (13, {"out": [200, 1, 2, 3]})
-            other = (13, {"out": [200, 1, *library.painted(2, "u8", 2, True)]})
+            result = (13, {"out": [200, *library.painted(3, "u8", 1)]})
+            other = (13, {"out": [200, PAINT_BYTE + 1, *library.painted(2, "u8", 2, True)]})
             self.assertEqual(cases.case("a", "probe", dict(number=1, out=4), result).written, {"out": [200]})
             made = cases.case("a", "probe", dict(number=1, out=4), result, other)
-            self.assertEqual(made.written, {"out": [200, 1]})
-            self.assertEqual(cases.text([made]), "name a\ncall probe\nnumber 1\nout_lent 4\nanswer 13\nout C801\n")
+            self.assertEqual(made.written, {"out": [200, PAINT_BYTE + 1]})
+            self.assertEqual(cases.text([made]), "name a\ncall probe\nnumber 1\nout_lent 4\nanswer 13\nout C881\n")
             self.assertEqual(cases.read(cases.text([made])), [made])
             self.assertEqual(cases.expected(made), result)
 
@@ -270,6 +342,15 @@ class Cases(unittest.TestCase):
         self.assertEqual(cases.text([made]), (
             "name B\ncall remainders\nfile 001B01020205F5E100000000010000000100000000000F4240000F4240\n"
             "state 1\nn 3\nr 1\nmean_lent 1\nshare_lent 1\nmix_lent 1\nanswer 0\nmean 0\nshare 0\nmix 3\n"))
+
+
+    def test_text_of_a_moved_file(self):
+        given = dict(file=B, out=40)
+        made = cases.case("B", "to_version_2", given, inputs.outcome(calculator, "to_version_2", given))
+        self.assertEqual(cases.text([made]), (
+            "name B\ncall to_version_2\nfile 001B01020205F5E100000000010000000100000000000F4240000F4240\n"
+            "out_lent 40\nanswer 37\n"
+            "out 002302020205F5E10000000001000F4240000000000000000100000000000F4240000F4240\n"))
 
 
 class Kit(unittest.TestCase):
@@ -363,6 +444,85 @@ WRONG_REMAINDERS = {
 }
 
 
+# --- Wrong calls of version 2 and the converter ------------------------------------------------------------
+
+# Parts of calculator.py.
+ROW_16 = "    if file[2] == 2 and sum(read_starts(file, M)) != MILLION:\n        return 16\n"
+ROW_8 = "    if T == 0:\n        return 8\n"
+TO_9 = "    f = read_rewards(file, M)\n    if max(f) > 1_000_000:\n        return 9\n"
+SUM = "sum(read_starts(file, M))"
+VERSIONS = "versions=(1, 2)"
+REWARDS = "first = first_reward(file, M)\n"
+WEIGHTS = "number(file, 13 + 4 * i, 4)"
+WEIGHTED = "sum(map(mul, model.a, moments[r - 1::model.R]))"
+FIGURE = WEIGHTED + " // MILLION"
+ON_FIRST = 'MILLION.to_bytes(4, "big") + bytes(4 * (file[3] - 1))'
+WITH_STARTS = "file[3:13] + starts + file[13:]"
+WITHOUT = "file[3:13] + file[13 + 4 * file[3]:]"
+ELSEWHERE = "any(read_starts(file, file[3])[1:])"
+ROW_17 = f"    if not row and {ELSEWHERE}:\n        row = 17\n"
+SHORT = "    if len(out) < len(file):\n"
+LAY = "    out[:len(file)] = file\n"
+BACK = "if row else written(as_version_1(file), out)"
+
+# What goes wrong where these parts are changed, by the calls that have to show it.
+WRONG_TEXTS = {
+    ("calculate", "series", "remainders", "to_version_1"): (
+        wrong("16-before-8", "", (ROW_8 + ROW_16, ROW_16 + ROW_8)),
+        wrong("16-after-9", "", (ROW_16 + TO_9, TO_9 + ROW_16)),
+        wrong("16-left-out", "", (ROW_16, "")),
+        wrong("16-in-32-bits", "", (SUM, f"{SUM} % 2**32")),
+        wrong("16-above-alone", "", (f"{SUM} != MILLION", f"{SUM} > MILLION")),
+        wrong("16-below-alone", "", (f"{SUM} != MILLION", f"{SUM} < MILLION")),
+        wrong("16-without-first", "", (SUM, SUM.replace("M))", "M)[1:])"))),
+        wrong("16-without-last", "", (SUM, SUM.replace("M))", "M)[:-1])"))),
+        wrong("weights-after-rewards", "", (WEIGHTS, "number(file, 13 + 4 * M + 4 * i, 4)"), (REWARDS, "first = 13\n")),
+        wrong("rewards-at-13", "", (REWARDS, "first = 13\n")),
+        wrong("6-of-version-1", "", ("right_length(file[2], M)", "right_length(1, M)")),
+    ),
+    ("calculate", "series"): (
+        wrong("version-0-admitted", "", (VERSIONS, "versions=(0, 1, 2)")),
+        wrong("version-2-refused", "", (VERSIONS, "versions=(1,)")),
+        wrong("version-3-admitted", "", (VERSIONS, "versions=(1, 2, 3)")),
+        wrong("start-to-the-nearest", "", (FIGURE, f"({WEIGHTED} + 500_000) // MILLION")),
+        wrong("start-up", "", (FIGURE, f"-(-{WEIGHTED} // MILLION)")),
+        wrong("start-product-by-product", "",
+              (FIGURE, "sum(a * m // MILLION for a, m in zip(model.a, moments[r - 1::model.R]))")),
+        wrong("start-of-state-1", "", (FIGURE, "moments[r - 1]")),
+        wrong("start-without-last", "", (FIGURE, FIGURE.replace("model.a", "model.a[:-1]"))),
+        wrong("13-of-the-moments", "", ("if cells < block_size(file)", "if cells < M * R"),
+              ("len(times) * block_size(file)", "len(times) * model.M * model.R")),
+    ),
+    ("to_version_2", "to_version_1"): (
+        wrong("both-versions", "", ("LENT_CELLS, [1])", "LENT_CELLS)"), ("LENT_CELLS, [2])", "LENT_CELLS)")),
+        wrong("13-left-out", "", (SHORT, "    if False:\n")),
+        wrong("13-for-just-enough", "", (SHORT, "    if len(out) <= len(file):\n")),
+        wrong("count-one-more", "", ('("bytes", len(file))', '("bytes", len(file) + 1)')),
+        wrong("byte-past-the-end", "", (LAY, LAY + "    out[len(file):len(file) + 1] = [0]\n")),
+        wrong("written-before-13", "", (SHORT, "    out[:] = [*file[:len(out)], *out[len(file):]]\n" + SHORT)),
+        wrong("length-one-more", "", ("(1 + len(fields))", "(2 + len(fields))")),
+        wrong("version-stays", "", ("bytes([version])", "bytes([3 - version])")),
+        wrong("version-not-written", "", (LAY, f"    kept = out[2]\n{LAY}    out[2] = kept\n")),
+    ),
+    ("to_version_2",): (
+        wrong("weight-on-last", "", (ON_FIRST, 'bytes(4 * (file[3] - 1)) + MILLION.to_bytes(4, "big")')),
+        wrong("weights-behind-rewards", "",
+              (WITH_STARTS, "file[3:13 + 4 * file[3]] + starts + file[13 + 4 * file[3]:]")),
+    ),
+    ("to_version_1",): (
+        wrong("17-left-out", "", (ROW_17, "")),
+        wrong("17-before-12", "", (ROW_17, ROW_17.replace("not row", "row in (0, 12)"))),
+        wrong("17-before-16", "", (ROW_17, ROW_17.replace("not row", "row in (0, 16)"))),
+        wrong("17-after-13", "", (ELSEWHERE, f"{ELSEWHERE} and len(out) >= len(file) - 4 * file[3]")),
+        wrong("17-state-2-alone", "", (ELSEWHERE, ELSEWHERE.replace("[1:]", "[1:2]"))),
+        wrong("17-last-state-alone", "", (ELSEWHERE, ELSEWHERE.replace("[1:]", "[1:][-1:]"))),
+        wrong("13-for-less-than-the-file", "",
+              (BACK, BACK.replace("else", 'else ("refused", 13) if len(out) < len(file) else'))),
+        wrong("rewards-dropped", "", (WITHOUT, "file[3:13 + 4 * file[3]] + file[13 + 8 * file[3]:]")),
+    ),
+}
+
+
 class Comparison(unittest.TestCase):
 
     def compare(self, linked, call="series", count=50, draw=None):
@@ -375,11 +535,12 @@ class Comparison(unittest.TestCase):
         return status, said.getvalue(), saved
 
     def test_equal(self):
-        for call, ends in (("series", ""), ("remainders", r"; 39 ends, each at least \d+ times")):
-            status, said, saved = self.compare(Reference(), call, 75)
+        for call, ends in inputs.ENDS.items():
+            status, said, saved = self.compare(Reference(), call, inputs.enough(call))
             self.assertEqual((status, saved), (0, []))
-            self.assertRegex(said, rf"\Acompared 75 inputs of {call}, seed 7: all equal "
-                                   rf"\(accepted \d+; refused 1: \d+, .*\d{ends}\)\n\Z")
+            self.assertRegex(said, rf"\Acompared \d+ inputs of {call}, seed 7: all equal "
+                                   rf"\(accepted \d+; refused 1: \d+, .*; {len(ends)} ends, each at least \d+ "
+                                   r"times\)\n\Z")
 
     def test_different(self):
         def one_more(given, answer, written):
@@ -398,10 +559,22 @@ class Comparison(unittest.TestCase):
             self.assertEqual((status, len(saved)), (1, 1), word)
             self.assertRegex(said, r"\Aremainders \d{5}-.*: .*expected \d+.*, got \d+\n", word)
 
+    def test_wrong_texts(self):
+        """Each wrong text is told by some input of each of its calls."""
+        drawn = {call: given_all(7, 4 * inputs.enough(call), call) for call in library.CALLS}
+        right = functools.lru_cache(None)(lambda call, k: inputs.outcome(calculator, call, drawn[call][k]))
+        for calls, entries in WRONG_TEXTS.items():
+            for entry in entries:
+                program = mutants.module(entry)
+                for call in calls:
+                    self.assertTrue(any(inputs.outcome(program, call, given) != right(call, k)
+                                        for k, given in enumerate(drawn[call])), (call, entry.name))
+
     def test_what_is_never_reached_is_told(self):
-        for call, missing in (("series", 0), ("series", 14), ("remainders", "n-largest"),
+        for call, missing in (("calculate", 16), ("calculate", "sum-right-in-32-bits"), ("remainders", "n-largest"),
                               ("remainders", "r-past-limit"), ("remainders", "64-states"),
-                              ("remainders", "outside-row-12")):
+                              ("remainders", "outside-row-12"), ("to_version_2", 0), ("to_version_2", "room-other"),
+                              ("to_version_1", 17)):
             def without(seed, count, call=call, missing=missing):
                 drawn = inputs.mixed(call, seed, 3 * count)
                 kept = (each for each in drawn if missing not in reached(call, each.given))
@@ -409,7 +582,7 @@ class Comparison(unittest.TestCase):
 
             status, said, _ = self.compare(Reference(), call, inputs.enough(call), without)
             self.assertEqual(status, 1)
-            self.assertTrue(said.endswith(f"{call}: never reached: {missing}\n"), said)
+            self.assertIn(str(missing), said.partition(f"{call}: never reached: ")[2].rstrip("\n").split(", "), said)
 
     def test_difference(self):
         was = library.painted(3)
@@ -447,7 +620,7 @@ class Library(unittest.TestCase):
         for kind, words in ((1, f"cells[3], outside of its 3, was {PAINT + 3} and is 7"),
                             (2, f"cells[-1], outside of its 3, was {PAINT - 1} and is 7"),
                             (3, "file[1], which is only read, was 2 and is 7"),
-                            (4, "file[3], outside of its 3, was 3 and is 7"),
+                            (4, f"file[3], outside of its 3, was {PAINT_BYTE + 3} and is 7"),
                             (5, "file[-1], outside of its 3, was 255 and is 7")):
             answer, written, faults = self.call(kind)
             self.assertEqual((answer, faults), (2**64 - 1 - kind, [words]))
@@ -461,14 +634,23 @@ class Library(unittest.TestCase):
                                (1, 5, [f"mean[1], outside of its 1, was {PAINT + 1} and is 7"]),
                                (2, 5, [f"share[-1], outside of its 1, was {PAINT - 1} and is 7"]),
                                (3, 5, [f"mix[9], outside of its 1, was {PAINT + 9} and is 7"]),
-                               (4, 5, ["file[3], outside of its 3, was 3 and is 7"])):
+                               (4, 5, [f"file[3], outside of its 3, was {PAINT_BYTE + 3} and is 7"])):
             got = self.linked.call("remainders", asked(bytes([kind, 2, 3]), state=2**64 - 1, n=2**32 + 1, r=r))
             self.assertEqual(got, (30, {"mean": [2**64 - 1], "share": [2**32 + 1], "mix": [r or PAINT]}, words))
+
+    def test_bytes_that_are_written(self):
+        for kind, words in ((0, []),
+                            (1, [f"out[3], outside of its 3, was {PAINT_BYTE + 3} and is 7"]),
+                            (2, ["out[-1], outside of its 3, was 255 and is 7"]),
+                            (3, ["file[2], which is only read, was 3 and is 7"]),
+                            (4, [f"file[3], outside of its 3, was {PAINT_BYTE + 3} and is 7"])):
+            got = self.linked.call("to_version_2", dict(file=bytes([kind, 2, 3]), out=3))
+            self.assertEqual(got, (33, {"out": [PAINT_BYTE, PAINT_BYTE + 1, 2]}, words))
 
     def test_numbers_and_bytes(self):
         with mock.patch.dict(library.CALLS, PROBE):
             got = self.linked.call("probe", dict(number=9, out=4))
-        self.assertEqual(got, (13, {"out": [200, 9, 2, 3]}, []))
+        self.assertEqual(got, (13, {"out": [200, 9, PAINT_BYTE + 2, PAINT_BYTE + 3]}, []))
 
     def test_calls(self):
         self.assertTrue(self.linked.has("calculate"))

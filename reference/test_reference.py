@@ -792,8 +792,8 @@ class Version2(unittest.TestCase):
         self.assertEqual(outcome(largest, 520)[0], "level")
 
     def test_down(self):
-        # 333,333 * 718,750,000,000 + 666,667 * 281,250,000,000 is 427,083,187,500 and 0 over 1,000,000; with r = 2
-        # 333,333 * 612,500,000,000 + 666,667 * 175,000,000,000 is 320,833,187,500.
+        # 333,333 * 718,750,000,000 + 666,667 * 281,250,000,000, over 1,000,000, and
+        # 333,333 * 612,500,000,000 + 666,667 * 175,000,000,000, over 1,000,000: nothing is left.
         self.assertEqual(self.cells(starting(B, 333_333, 666_667))[4:], [427083187500, 320833187500])
         # Moments ONE - 1 and ONE: a half and more of a tick go down.
         model = calculator.read_model(starting(B, 500_000, 500_000))._replace(R=1)
@@ -856,9 +856,9 @@ class Converter(unittest.TestCase):
         return other
 
     def test_A_and_B(self):
-        self.assertEqual(self.there_and_back(A).hex(), "0013020101000027100000000100" "0f424000000005")
+        self.assertEqual(self.there_and_back(A).hex(), "00130201010000271000000001000f424000000005")
         other = self.there_and_back(B)
-        self.assertEqual(other.hex(), "002302020205f5e10000000001000f424000000000000000010000000000" "0f4240000f4240")
+        self.assertEqual(other.hex(), "002302020205f5e10000000001000f4240000000000000000100000000000f4240000f4240")
         self.assertEqual(sheet(other), B_SHEET + b"start 1 0.718750000000\nstart 2 0.612500000000\n")
         self.assertEqual(len(self.there_and_back(models.full_size(64))), 16653)
 
