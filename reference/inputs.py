@@ -411,8 +411,8 @@ def any_number(rng, limit):
 
 
 def refused_remainders(rng, row, outside):
-    """An input that breaks this row and the next one, with numbers that every file has, or some that come after it, with
-    numbers that none has."""
+    """An input that breaks this row and the next one, with numbers that every file has; or outside, this row and some
+    later ones, with numbers that no file has."""
     file = broken_file(rng, "remainders", and_later(rng, "remainders", row, not outside))
     return asked(file, **(all_beyond(rng, MOST) if outside else dict.fromkeys(NUMBERS, 1)))
 
