@@ -1,4 +1,5 @@
-/* Calls the proved library as include/kuldrepso.h declares it, on document 01's files, and on the longest file there is.
+/* Calls the proved library as include/kuldrepso.h declares it, on document 01's files, on the same in version 2, and on the
+ * longest files there are.
  * Every slice and every number to write to is lent from the midst of a larger array, and each call runs on a stack of
  * its own. No call may change a byte of the file, a time, an element that it has nothing to write to, anything before or
  * after what is lent, or the stack past what the header says. `tests/c/run` builds and runs this, as C and as C++. */
@@ -9,14 +10,17 @@
 #include <string.h>
 #include <ucontext.h>
 
-#if KULDREPSO_VERSION_MAJOR != 2 || KULDREPSO_VERSION_MINOR != 2
-#error "this test is for version 2.2 of the header"
+#if KULDREPSO_VERSION_MAJOR != 3 || KULDREPSO_VERSION_MINOR != 0
+#error "this test is for version 3.0 of the header"
 #endif
 #if KULDREPSO_REFUSED != 1000000 || KULDREPSO_ONE != 1000000000000
 #error "KULDREPSO_REFUSED or KULDREPSO_ONE has another value than callers rely on"
 #endif
-#if KULDREPSO_MOST_CELLS != 64 * 8 || KULDREPSO_MOST_BYTES != 2 + 4 * 64 * 64 + 11
-#error "KULDREPSO_MOST_CELLS or KULDREPSO_MOST_BYTES is not that of 64 states and 8 moments"
+#if KULDREPSO_MOST_CELLS != 520 || KULDREPSO_MOST_CELLS != (64 + 1) * 8
+#error "KULDREPSO_MOST_CELLS is not that of 64 states and the start, with 8 figures each"
+#endif
+#if KULDREPSO_MOST_BYTES != 16653 || KULDREPSO_MOST_BYTES != 2 + 4 * 64 * 64 + 4 * 64 + 11
+#error "KULDREPSO_MOST_BYTES is not that of a version 2 file with 64 states"
 #endif
 #if KULDREPSO_MOST_TIMES != 8
 #error "KULDREPSO_MOST_TIMES is not that of document 02's row 14"
@@ -34,6 +38,7 @@
 enum {
     GUARD = 8, /* elements before and after a lent slice */
     BYTES = KULDREPSO_MOST_BYTES + 1,
+    OUT = KULDREPSO_MOST_BYTES + 1,
     TIMES = KULDREPSO_MOST_TIMES + 1,
     LEVELS = KULDREPSO_MOST_TIMES + 1,
     CELLS = KULDREPSO_MOST_TIMES * KULDREPSO_MOST_CELLS + 1,
@@ -46,6 +51,13 @@ static const uint8_t PAINT = 0xC3; /* every byte outside what a call reads, and 
 static const uint8_t A[17] = {0x00, 0x0F, 0x01, 0x01, 0x01, 0x00, 0x00, 0x27, 0x10, 0x00, 0x00, 0x00, 0x01, 0x00, 0x00, 0x00, 0x05};
 static const uint8_t B[29] = {0x00, 0x1B, 0x01, 0x02, 0x02, 0x05, 0xF5, 0xE1, 0x00, 0x00, 0x00, 0x00, 0x01, 0x00, 0x00,
                               0x00, 0x01, 0x00, 0x00, 0x00, 0x00, 0x00, 0x0F, 0x42, 0x40, 0x00, 0x0F, 0x42, 0x40};
+
+/* A in version 2, and B in version 2 with the weights 250,000 and 750,000. */
+static const uint8_t A2[21] = {0x00, 0x13, 0x02, 0x01, 0x01, 0x00, 0x00, 0x27, 0x10, 0x00, 0x00,
+                               0x00, 0x01, 0x00, 0x0F, 0x42, 0x40, 0x00, 0x00, 0x00, 0x05};
+static const uint8_t B2[37] = {0x00, 0x23, 0x02, 0x02, 0x02, 0x05, 0xF5, 0xE1, 0x00, 0x00, 0x00, 0x00, 0x01,
+                               0x00, 0x03, 0xD0, 0x90, 0x00, 0x0B, 0x71, 0xB0, 0x00, 0x00, 0x00, 0x01, 0x00,
+                               0x00, 0x00, 0x00, 0x00, 0x0F, 0x42, 0x40, 0x00, 0x0F, 0x42, 0x40};
 
 /* The levels and the moments for 1 hour, 2 hours and so on to 8. A's moments are all one. B's for 1 hour are
  * document 02's; the others are from the independent calculation in tests/rust. */
@@ -65,6 +77,21 @@ static const uint64_t B_MOMENTS[32] = {
     532604023918, 312804856802, 467395976077, 247596808962,
 };
 
+/* The same in version 2. B's start figures are by hand from its moments: one of state 1 and three of state 2, over 4, down. */
+static const uint64_t A2_FIGURES[16] = {
+    KULDREPSO_ONE, KULDREPSO_ONE, KULDREPSO_ONE, KULDREPSO_ONE, KULDREPSO_ONE, KULDREPSO_ONE, KULDREPSO_ONE, KULDREPSO_ONE,
+    KULDREPSO_ONE, KULDREPSO_ONE, KULDREPSO_ONE, KULDREPSO_ONE, KULDREPSO_ONE, KULDREPSO_ONE, KULDREPSO_ONE, KULDREPSO_ONE};
+static const uint64_t B2_FIGURES[48] = {
+    718750000000, 612500000000, 281250000000, 175000000000, 390625000000, 284375000000,
+    628571428571, 476190476190, 371428571428, 219047619047, 435714285713, 283333333332,
+    585502713641, 406448348817, 414497286358, 235442921534, 457248643178, 278194278354,
+    563821312579, 370086674700, 436178687419, 242444049539, 468089343709, 274354705829,
+    552606298144, 349291442002, 447393701854, 244078845712, 473696850926, 270381994784,
+    542979767342, 332045283058, 457020232654, 246085748370, 478510116326, 267575632042,
+    536354326363, 320389506148, 463645673633, 247680853418, 481822836815, 265858016600,
+    532604023918, 312804856802, 467395976077, 247596808962, 483697988037, 263898820922,
+};
+
 /* What kuldrepso_remainders is asked for, its answer, and where that is KULDREPSO_GIVEN the remainders of V, W and U. */
 struct question {
     const char *name;
@@ -78,7 +105,8 @@ static uint8_t bytes[GUARD + BYTES + GUARD];
 static uint32_t times[GUARD + TIMES + GUARD];
 static uint64_t levels[GUARD + LEVELS + GUARD];
 static uint64_t cells[GUARD + CELLS + GUARD];
-static size_t file_length, time_count, level_count, cell_count;
+static uint8_t out[GUARD + OUT + GUARD];
+static size_t file_length, time_count, level_count, cell_count, out_length;
 static uint64_t numbers[3][NUMBER];
 static const struct question *asked;
 static const char *name;
@@ -97,6 +125,14 @@ static void series(void) {
 static void remainders(void) {
     answered = kuldrepso_remainders(bytes + GUARD, file_length, asked->state, asked->n, asked->r, numbers[0] + GUARD,
                                     numbers[1] + GUARD, numbers[2] + GUARD);
+}
+
+static void to_version_2(void) {
+    answered = kuldrepso_to_version_2(bytes + GUARD, file_length, out + GUARD, out_length);
+}
+
+static void to_version_1(void) {
+    answered = kuldrepso_to_version_1(bytes + GUARD, file_length, out + GUARD, out_length);
 }
 
 static void fault(const char *what, uint64_t number) {
@@ -208,7 +244,7 @@ static void expect_refusal(const char *call_name, const uint8_t *file, size_t le
 
 /* kuldrepso_series: `level_words` and `moments` are to be written, for each time in turn. */
 static void expect_series(const char *call_name, struct lent lent, const uint64_t *level_words, const uint64_t *moments) {
-    size_t block = (size_t)lent.file[3] * lent.file[4];
+    size_t block = ((size_t)lent.file[3] + (lent.file[2] == 2)) * lent.file[4];
     expect(call_name, series, lent, lent.time_count, level_words, lent.time_count, moments, lent.time_count * block);
 }
 
@@ -228,34 +264,97 @@ static void expect_remainders(const uint8_t *file, size_t length, const struct q
     for (k = 0; k < 3; k++) expect_words(what[k], numbers[k], NUMBER, question->remainders + k, written);
 }
 
+/* What stands at a place of the slice for a moved file, and of its guards, before a call. */
+static uint8_t byte_before(size_t at) {
+    return (uint8_t)(0xA5 + at);
+}
+
+/* A move of `length` bytes of `file` with `count` bytes lent for the moved file: the answer is to be `answer`, the first
+ * `written` of these bytes `moved`, and all else as before. */
+static void expect_out(const char *call_name, void (*call)(void), const uint8_t *file, size_t length, size_t count,
+                       uint64_t answer, const uint8_t *moved, size_t written) {
+    size_t at;
+    for (at = 0; at < sizeof out; at++) out[at] = byte_before(at);
+    out_length = count;
+    run(call_name, call, file, length, answer);
+    for (at = 0; at < sizeof out; at++) {
+        int new_byte = at >= GUARD && at - GUARD < written;
+        if (out[at] != (new_byte ? moved[at - GUARD] : byte_before(at))) {
+            fault("not as expected is moved byte, the first such,", at - GUARD);
+            break;
+        }
+    }
+}
+
+static void expect_move_refusal(const char *call_name, void (*call)(void), const uint8_t *file, size_t length,
+                                size_t count, int row) {
+    expect_out(call_name, call, file, length, count, KULDREPSO_REFUSED + (uint64_t)row, NULL, 0);
+}
+
+/* The move to `moved_length` bytes, with just as many, more and all lent; then with too few. */
+static void expect_moved(const char *call_name, void (*call)(void), const uint8_t *file, size_t length,
+                         const uint8_t *moved, size_t moved_length) {
+    expect_out(call_name, call, file, length, moved_length, moved_length, moved, moved_length);
+    expect_out(call_name, call, file, length, moved_length + 1, moved_length, moved, moved_length);
+    expect_out(call_name, call, file, length, OUT, moved_length, moved, moved_length);
+    expect_move_refusal(call_name, call, file, length, moved_length - 1, 13);
+    expect_move_refusal(call_name, call, file, length, 0, 13);
+}
+
+/* There and back: a version 1 file, and the same in version 2 with all weight on state 1. */
+static void expect_pair(const char *call_name, const uint8_t *first, size_t first_length, const uint8_t *second,
+                        size_t second_length) {
+    expect_moved(call_name, to_version_2, first, first_length, second, second_length);
+    expect_moved(call_name, to_version_1, second, second_length, first, first_length);
+}
+
 /* `number` in `width` bytes from `at` on, big-endian. */
 static void put(uint8_t *file, size_t at, size_t width, uint32_t number) {
     for (; width > 0; width--, number >>= 8) file[at + width - 1] = (uint8_t)number;
 }
 
-/* Document 01's small example of each row, in the order of the table: a file, how many of its bytes, and one number put
- * into it. */
+/* Document 01's small example of each row, in the order of the table, with a version that is neither 1 nor 2 for row 3;
+ * then such examples for version 2. A file, how many of its bytes, one number put into it, and the row. */
 static const struct example {
     const char *name;
     const uint8_t *file;
     size_t length, at, width;
     uint32_t number;
     size_t cells;
-} EXAMPLES[13] = {
-    {"the empty file", A, 0, 0, 0, 0, KULDREPSO_MOST_CELLS},
-    {"A without its last byte", A, 16, 0, 0, 0, KULDREPSO_MOST_CELLS},
-    {"A, byte 2 = 02", A, 17, 2, 1, 2, KULDREPSO_MOST_CELLS},
-    {"A, byte 3 = 00", A, 17, 3, 1, 0, KULDREPSO_MOST_CELLS},
-    {"A, byte 4 = 09", A, 17, 4, 1, 9, KULDREPSO_MOST_CELLS},
-    {"A, byte 3 = 02", A, 17, 3, 1, 2, KULDREPSO_MOST_CELLS},
-    {"A, bytes 5 to 8 = 0", A, 17, 5, 4, 0, KULDREPSO_MOST_CELLS},
-    {"A, bytes 9 to 12 = 0", A, 17, 9, 4, 0, KULDREPSO_MOST_CELLS},
-    {"A, reward 1,000,001", A, 17, 13, 4, 1000001, KULDREPSO_MOST_CELLS},
-    {"A, reward 0", A, 17, 13, 4, 0, KULDREPSO_MOST_CELLS},
-    {"B, first rate 10,000,001", B, 29, 21, 4, 10000001, KULDREPSO_MOST_CELLS},
-    {"B, time 257", B, 29, 9, 4, 257, KULDREPSO_MOST_CELLS},
-    {"B with 3 cells", B, 29, 0, 0, 0, 3},
+    int row;
+} EXAMPLES[] = {
+    {"the empty file", A, 0, 0, 0, 0, KULDREPSO_MOST_CELLS, 1},
+    {"A without its last byte", A, 16, 0, 0, 0, KULDREPSO_MOST_CELLS, 2},
+    {"A, byte 2 = 03", A, 17, 2, 1, 3, KULDREPSO_MOST_CELLS, 3},
+    {"A, byte 3 = 00", A, 17, 3, 1, 0, KULDREPSO_MOST_CELLS, 4},
+    {"A, byte 4 = 09", A, 17, 4, 1, 9, KULDREPSO_MOST_CELLS, 5},
+    {"A, byte 3 = 02", A, 17, 3, 1, 2, KULDREPSO_MOST_CELLS, 6},
+    {"A, bytes 5 to 8 = 0", A, 17, 5, 4, 0, KULDREPSO_MOST_CELLS, 7},
+    {"A, bytes 9 to 12 = 0", A, 17, 9, 4, 0, KULDREPSO_MOST_CELLS, 8},
+    {"A, reward 1,000,001", A, 17, 13, 4, 1000001, KULDREPSO_MOST_CELLS, 9},
+    {"A, reward 0", A, 17, 13, 4, 0, KULDREPSO_MOST_CELLS, 10},
+    {"B, first rate 10,000,001", B, 29, 21, 4, 10000001, KULDREPSO_MOST_CELLS, 11},
+    {"B, time 257", B, 29, 9, 4, 257, KULDREPSO_MOST_CELLS, 12},
+    {"B with 3 cells", B, 29, 0, 0, 0, 3, 13},
+    {"A2 without its last byte", A2, 20, 0, 0, 0, KULDREPSO_MOST_CELLS, 2},
+    {"A2, byte 2 = 00", A2, 21, 2, 1, 0, KULDREPSO_MOST_CELLS, 3},
+    {"A2, byte 2 = 03", A2, 21, 2, 1, 3, KULDREPSO_MOST_CELLS, 3},
+    {"A2, byte 2 = FF", A2, 21, 2, 1, 255, KULDREPSO_MOST_CELLS, 3},
+    {"A, byte 2 = 02", A, 17, 2, 1, 2, KULDREPSO_MOST_CELLS, 6},
+    {"A2, byte 2 = 01", A2, 21, 2, 1, 1, KULDREPSO_MOST_CELLS, 6},
+    {"A2, bytes 9 to 12 = 0", A2, 21, 9, 4, 0, KULDREPSO_MOST_CELLS, 8},
+    {"A2, weight 999,999", A2, 21, 13, 4, 999999, KULDREPSO_MOST_CELLS, 16},
+    {"A2, weight 1,000,001", A2, 21, 13, 4, 1000001, KULDREPSO_MOST_CELLS, 16},
+    {"B2, first weight 250,001", B2, 37, 13, 4, 250001, KULDREPSO_MOST_CELLS, 16},
+    {"B2, second weight 4,294,967,295", B2, 37, 17, 4, 4294967295, KULDREPSO_MOST_CELLS, 16},
+    {"A2, reward 1,000,001", A2, 21, 17, 4, 1000001, KULDREPSO_MOST_CELLS, 9},
+    {"A2, reward 0", A2, 21, 17, 4, 0, KULDREPSO_MOST_CELLS, 10},
+    {"B2, first rate 10,000,001", B2, 37, 29, 4, 10000001, KULDREPSO_MOST_CELLS, 11},
+    {"B2, time 257", B2, 37, 9, 4, 257, KULDREPSO_MOST_CELLS, 12},
+    {"B2 with 5 cells", B2, 37, 0, 0, 0, 5, 13},
+    {"B2 with 4 cells", B2, 37, 0, 0, 0, 4, 13},
 };
+enum { EXAMPLE_COUNT = sizeof EXAMPLES / sizeof EXAMPLES[0], EXAMPLE_BYTES = sizeof B2 };
 
 /* The example's file, made in `file`. */
 static void make(const struct example *row, uint8_t *file) {
@@ -269,10 +368,14 @@ static void papers(void) {
     expect_level("A with all cells", A, sizeof A, KULDREPSO_MOST_CELLS, 1, A_MOMENTS, 1);
     expect_level("B with its four cells", B, sizeof B, 4, 3, B_MOMENTS, 4);
     expect_level("B with all cells", B, sizeof B, KULDREPSO_MOST_CELLS, 3, B_MOMENTS, 4);
-    for (k = 0; k < 13; k++) {
-        uint8_t file[sizeof B];
-        make(&EXAMPLES[k], file);
-        expect_refusal(EXAMPLES[k].name, file, EXAMPLES[k].length, EXAMPLES[k].cells, (int)k + 1);
+    expect_level("A2 with its two cells", A2, sizeof A2, 2, 1, A2_FIGURES, 2);
+    expect_level("B2 with its six cells", B2, sizeof B2, 6, 3, B2_FIGURES, 6);
+    expect_level("B2 with all cells", B2, sizeof B2, KULDREPSO_MOST_CELLS, 3, B2_FIGURES, 6);
+    for (k = 0; k < EXAMPLE_COUNT; k++) {
+        const struct example *row = &EXAMPLES[k];
+        uint8_t file[EXAMPLE_BYTES];
+        make(row, file);
+        expect_refusal(row->name, file, row->length, row->cells, row->row);
     }
 }
 
@@ -304,26 +407,32 @@ static const struct list {
 };
 
 static void series_papers(void) {
-    uint8_t file[sizeof B];
+    uint8_t file[EXAMPLE_BYTES];
     size_t k, late;
     const struct lent a = {A, sizeof A, HOURS, 1, 1, 1}, b = {B, sizeof B, HOURS, 1, 1, 4};
     const struct lent a8 = {A, sizeof A, HOURS, 8, 8, 8}, b8 = {B, sizeof B, HOURS, 8, 8, 32};
     const struct lent more = {B, sizeof B, HOURS, 7, LEVELS, CELLS};
+    const struct lent a28 = {A2, sizeof A2, HOURS, 8, 8, 16}, b28 = {B2, sizeof B2, HOURS, 8, 8, 48};
+    const struct lent b2_more = {B2, sizeof B2, HOURS, 7, LEVELS, CELLS}, b2_fewer = {B2, sizeof B2, HOURS, 8, 8, 47};
     expect_series("A, one time", a, A_LEVELS, A_MOMENTS);
     expect_series("A, eight times", a8, A_LEVELS, A_MOMENTS);
     expect_series("B, one time", b, B_LEVELS, B_MOMENTS);
     expect_series("B, eight times", b8, B_LEVELS, B_MOMENTS);
     expect_series("B, seven times, all levels and cells", more, B_LEVELS, B_MOMENTS);
-    for (k = 0; k < 12; k++) {
+    expect_series("A2, eight times", a28, A_LEVELS, A2_FIGURES);
+    expect_series("B2, eight times", b28, B_LEVELS, B2_FIGURES);
+    expect_series("B2, seven times, all levels and cells", b2_more, B_LEVELS, B2_FIGURES);
+    expect_series_refusal("B2, a cell too few", b2_fewer, 13);
+    for (k = 0; k < EXAMPLE_COUNT; k++) {
         const struct example *row = &EXAMPLES[k];
         struct lent one = {file, row->length, HOURS, 1, LEVELS, CELLS}, nine = {file, row->length, HOURS, 9, 0, 0};
         make(row, file);
-        if (k + 1 < 12) {
-            expect_series_refusal(row->name, one, (int)k + 1);
-            expect_series_refusal(row->name, nine, (int)k + 1);
-        } else {
+        if (row->row == 12) {
             /* the file's own time is not used */
-            expect_series(row->name, one, B_LEVELS, B_MOMENTS);
+            expect_series(row->name, one, B_LEVELS, file[2] == 2 ? B2_FIGURES : B_MOMENTS);
+        } else if (row->row != 13) {
+            expect_series_refusal(row->name, one, row->row);
+            expect_series_refusal(row->name, nine, row->row);
         }
     }
     for (late = 0; late < 2; late++) {
@@ -387,22 +496,117 @@ static const struct question OF_UNEVEN[5] = {
 static void remainders_papers(void) {
     static const uint64_t any[6][3] = {{1, 1, 1}, {0, 1, 1}, {1, 0, 1},
                                        {1, 1, 0}, {0, 0, 0}, {UINT64_MAX, UINT64_MAX, UINT64_MAX}};
-    uint8_t file[sizeof B];
+    uint8_t file[EXAMPLE_BYTES];
     size_t k, at;
-    for (k = 0; k < sizeof OF_A / sizeof OF_A[0]; k++) expect_remainders(A, sizeof A, &OF_A[k]);
-    for (k = 0; k < sizeof OF_B / sizeof OF_B[0]; k++) expect_remainders(B, sizeof B, &OF_B[k]);
+    for (k = 0; k < sizeof OF_A / sizeof OF_A[0]; k++) {
+        expect_remainders(A, sizeof A, &OF_A[k]);
+        expect_remainders(A2, sizeof A2, &OF_A[k]);
+    }
+    for (k = 0; k < sizeof OF_B / sizeof OF_B[0]; k++) {
+        expect_remainders(B, sizeof B, &OF_B[k]);
+        expect_remainders(B2, sizeof B2, &OF_B[k]);
+    }
     memcpy(file, B, sizeof B);
     for (k = 0; k < 4; k++) put(file, 13 + 4 * k, 4, UNEVEN[k]);
-    for (k = 0; k < sizeof OF_UNEVEN / sizeof OF_UNEVEN[0]; k++) expect_remainders(file, sizeof file, &OF_UNEVEN[k]);
+    for (k = 0; k < sizeof OF_UNEVEN / sizeof OF_UNEVEN[0]; k++) expect_remainders(file, sizeof B, &OF_UNEVEN[k]);
     /* a file's refusal comes before a state, n or r outside */
-    for (k = 0; k < 12; k++) {
+    for (k = 0; k < EXAMPLE_COUNT; k++) {
         const struct example *row = &EXAMPLES[k];
+        if (row->row == 13) continue;
         make(row, file);
         for (at = 0; at < 6; at++) {
-            const struct question question = {row->name, any[at][0], any[at][1], any[at][2], KULDREPSO_REFUSED + k + 1,
-                                              {0, 0, 0}};
+            const struct question question = {row->name, any[at][0], any[at][1], any[at][2],
+                                              KULDREPSO_REFUSED + (uint64_t)row->row, {0, 0, 0}};
             expect_remainders(file, row->length, &question);
         }
+    }
+}
+
+/* The row that stops an example's file in a move from version `from`: 3 before all later rows where it is of another. */
+static int move_row(const struct example *row, const uint8_t *file, int from) {
+    return row->row > 3 && file[2] != from ? 3 : row->row;
+}
+
+/* B in version 2 with these weights and this time, made in `file`. */
+static void make_b2(uint8_t *file, uint32_t first, uint32_t second, uint32_t time) {
+    memcpy(file, B2, sizeof B2);
+    put(file, 13, 4, first);
+    put(file, 17, 4, second);
+    put(file, 9, 4, time);
+}
+
+static void move_papers(void) {
+    static const uint32_t elsewhere[3][2] = {{250000, 750000}, {999999, 1}, {0, 1000000}};
+    uint8_t file[EXAMPLE_BYTES];
+    size_t k;
+    expect_pair("A there and back", A, sizeof A, A2, sizeof A2);
+    make_b2(file, 1000000, 0, 1);
+    expect_pair("B there and back", B, sizeof B, file, sizeof B2);
+    expect_move_refusal("A2 to version 2", to_version_2, A2, sizeof A2, OUT, 3);
+    expect_move_refusal("A to version 1", to_version_1, A, sizeof A, OUT, 3);
+    for (k = 0; k < EXAMPLE_COUNT; k++) {
+        const struct example *row = &EXAMPLES[k];
+        if (row->row == 13) continue;
+        make(row, file);
+        expect_move_refusal(row->name, to_version_2, file, row->length, OUT, move_row(row, file, 1));
+        expect_move_refusal(row->name, to_version_2, file, row->length, 0, move_row(row, file, 1));
+        expect_move_refusal(row->name, to_version_1, file, row->length, OUT, move_row(row, file, 2));
+        expect_move_refusal(row->name, to_version_1, file, row->length, 0, move_row(row, file, 2));
+    }
+    for (k = 0; k < 3; k++) {
+        make_b2(file, elsewhere[k][0], elsewhere[k][1], 1);
+        expect_move_refusal("B2, weight on state 2", to_version_1, file, sizeof B2, OUT, 17);
+        expect_move_refusal("B2, weight on state 2, no byte for it", to_version_1, file, sizeof B2, 0, 17);
+        make_b2(file, elsewhere[k][0], elsewhere[k][1], 257);
+        expect_move_refusal("B2, weight on state 2, time 257", to_version_1, file, sizeof B2, OUT, 12);
+    }
+}
+
+/* Every call that reads a version 2 file refuses this one by `row`, from 6 to 11 or 16, with and without room for what it
+ * writes. */
+static void expect_row(const char *call_name, const uint8_t *file, size_t length, int row) {
+    const uint64_t answer = KULDREPSO_REFUSED + (uint64_t)row;
+    const struct lent all = {file, length, HOURS, 1, LEVELS, CELLS}, none = {file, length, HOURS, 9, 0, 0};
+    const struct question inside = {call_name, 1, 1, 1, answer, {0, 0, 0}};
+    const struct question outside = {call_name, 0, 0, 0, answer, {0, 0, 0}};
+    expect_refusal(call_name, file, length, CELLS, row);
+    expect_refusal(call_name, file, length, 0, row);
+    expect_series_refusal(call_name, all, row);
+    expect_series_refusal(call_name, none, row);
+    expect_remainders(file, length, &inside);
+    expect_remainders(file, length, &outside);
+    expect_move_refusal(call_name, to_version_1, file, length, OUT, row);
+    expect_move_refusal(call_name, to_version_1, file, length, 0, row);
+}
+
+/* Sums past 32 bits, the second of them 1,000,000 in its low 32 bits; and a sum one above together with each row about it. */
+static void wrong_sums(void) {
+    static const struct {
+        const char *name;
+        size_t at;
+        uint32_t number;
+        int row;
+    } both[6] = {
+        {"B2, a wrong sum and tolerance 0", 5, 0, 7},
+        {"B2, a wrong sum and time 0", 9, 0, 8},
+        {"B2, a wrong sum and reward 1,000,001", 21, 1000001, 16},
+        {"B2, a wrong sum and no reward", 21, 0, 16},
+        {"B2, a wrong sum and first rate 10,000,001", 29, 10000001, 16},
+        {"B2, a wrong sum and time 257", 9, 257, 16},
+    };
+    static const uint32_t never[1] = {0};
+    uint8_t file[EXAMPLE_BYTES];
+    const struct lent first_0 = {file, sizeof B2, never, 1, LEVELS, CELLS};
+    size_t k;
+    make_b2(file, 4294967295, 4294967295, 1);
+    expect_row("B2, weights of 4,294,967,295", file, sizeof B2, 16);
+    make_b2(file, 4294967295, 1000001, 1);
+    expect_row("B2, weights that sum to 4,295,967,296", file, sizeof B2, 16);
+    expect_series_refusal("B2, a wrong sum and first time 0", first_0, 8);
+    for (k = 0; k < 6; k++) {
+        make_b2(file, 250001, 750000, 1);
+        put(file, both[k].at, 4, both[k].number);
+        expect_row(both[k].name, file, sizeof B2, both[k].row);
     }
 }
 
@@ -413,47 +617,72 @@ static void no_elements(void) {
     expect_series_refusal("no element at all", none, 1);
     expect_series_refusal("one time and nothing else", time, 1);
     expect_series_refusal("A, one time, no level and no cell", list, 13);
+    expect_move_refusal("no byte to version 2, and none for it", to_version_2, A, 0, 0, 1);
+    expect_move_refusal("no byte to version 1, and none for it", to_version_1, A2, 0, 0, 1);
 }
 
-/* 64 states with the same reward and no rates, R = 8: every moment is one. 256 jumps are expected, the most, and
- * the tolerance is the least. */
-static void make_longest(uint8_t *file) {
-    size_t k;
+/* The longest file of a version, and its length: 64 states with the same reward and no rates, R = 8, so that every moment
+ * is one. 256 jumps are expected, the most, and the tolerance is the least. In version 2 all states have the same weight. */
+static size_t make_longest(uint8_t *file, int version) {
+    size_t k, rewards = version == 2 ? 13 + 4 * 64 : 13, length = rewards + 4 * 64 * 64;
     memset(file, 0, BYTES);
-    put(file, 0, 2, KULDREPSO_MOST_BYTES - 2);
-    put(file, 2, 1, 1);
+    put(file, 0, 2, (uint32_t)length - 2);
+    put(file, 2, 1, (uint32_t)version);
     put(file, 3, 1, 64);
     put(file, 4, 1, 8);
     put(file, 5, 4, 1);
     put(file, 9, 4, 256000000);
-    for (k = 0; k < 64; k++) put(file, 13 + 4 * k, 4, 1000000);
+    for (k = 0; version == 2 && k < 64; k++) put(file, 13 + 4 * k, 4, 15625);
+    for (k = 0; k < 64; k++) put(file, rewards + 4 * k, 4, 1000000);
+    return length;
 }
 
 static void longest(void) {
     static uint8_t file[BYTES];
     static uint64_t ones[KULDREPSO_MOST_CELLS];
     size_t k;
-    make_longest(file);
+    int version;
     for (k = 0; k < KULDREPSO_MOST_CELLS; k++) ones[k] = KULDREPSO_ONE;
-    expect_level("the longest file", file, KULDREPSO_MOST_BYTES, KULDREPSO_MOST_CELLS, 358, ones, KULDREPSO_MOST_CELLS);
-    expect_level("the longest file, a cell more", file, KULDREPSO_MOST_BYTES, KULDREPSO_MOST_CELLS + 1, 358, ones, KULDREPSO_MOST_CELLS);
-    expect_refusal("the longest file, a cell less", file, KULDREPSO_MOST_BYTES, KULDREPSO_MOST_CELLS - 1, 13);
-    put(file, 0, 2, KULDREPSO_MOST_BYTES + 1 - 2);
-    expect_refusal("a byte more than the longest", file, KULDREPSO_MOST_BYTES + 1, KULDREPSO_MOST_CELLS, 6);
+    for (version = 1; version <= 2; version++) {
+        size_t length = make_longest(file, version), block = version == 2 ? 65 * 8 : 64 * 8;
+        expect_level("the longest file", file, length, block, 358, ones, block);
+        expect_level("the longest file, a cell more", file, length, block + 1, 358, ones, block);
+        expect_refusal("the longest file, a cell less", file, length, block - 1, 13);
+        put(file, 0, 2, (uint32_t)length + 1 - 2);
+        expect_refusal("a byte more than the longest", file, length + 1, KULDREPSO_MOST_CELLS, 6);
+    }
+    expect_row("a byte more than the longest", file, KULDREPSO_MOST_BYTES + 1, 6);
+}
+
+/* There and back with the longest file; back with weight on each other state; and the largest sum of weights. */
+static void longest_moves(void) {
+    static uint8_t first[BYTES], second[BYTES];
+    size_t k, first_length = make_longest(first, 1), second_length = make_longest(second, 2);
+    expect_move_refusal("the longest file, weight on all states", to_version_1, second, second_length, OUT, 17);
+    for (k = 0; k < 64; k++) put(second, 13 + 4 * k, 4, k == 0 ? 1000000 : 0);
+    expect_pair("the longest file there and back", first, first_length, second, second_length);
+    put(second, 13, 4, 999999);
+    for (k = 1; k < 64; k++) {
+        put(second, 13 + 4 * k, 4, 1);
+        expect_move_refusal("the longest file, weight on another state", to_version_1, second, second_length, OUT, 17);
+        put(second, 13 + 4 * k, 4, 0);
+    }
+    for (k = 0; k < 64; k++) put(second, 13 + 4 * k, 4, 4294967295);
+    expect_row("the longest file, weights of 4,294,967,295", second, second_length, 16);
 }
 
 /* The longest file with other rewards, and from each state to the next about one jump an hour. */
-static void make_longest_ring(uint8_t *file) {
-    size_t k;
-    make_longest(file);
+static size_t make_longest_ring(uint8_t *file, int version) {
+    size_t k, length = make_longest(file, version), rewards = length - 4 * 64 * 64;
     for (k = 0; k < 64; k++) {
-        put(file, 13 + 4 * k, 4, (uint32_t)(15625 * (k + 1)));
+        put(file, rewards + 4 * k, 4, (uint32_t)(15625 * (k + 1)));
         /* the diagonal is left out: the next state's rate is the k-th of row k, and the first of the last row */
-        put(file, 13 + 4 * 64 + 4 * (63 * k + k % 63), 4, (uint32_t)(1000000 - k));
+        put(file, rewards + 4 * 64 + 4 * (63 * k + k % 63), 4, (uint32_t)(1000000 - k));
     }
+    return length;
 }
 
-/* For each of the eight times the level and the moments are those of the file with that time. */
+/* For each of the eight times the level and the block are those of the file with that time. */
 static void longest_series(void) {
     static const uint32_t eight[KULDREPSO_MOST_TIMES] = {1, 2, 12, 24, 72, 168, 255, 256};
     static uint8_t file[BYTES];
@@ -461,9 +690,9 @@ static void longest_series(void) {
     static uint64_t expected[KULDREPSO_MOST_TIMES * KULDREPSO_MOST_CELLS];
     struct lent all = {file, KULDREPSO_MOST_BYTES, eight, KULDREPSO_MOST_TIMES, KULDREPSO_MOST_TIMES,
                        KULDREPSO_MOST_TIMES * KULDREPSO_MOST_CELLS};
-    struct lent more = all, fewer_levels = all, fewer_cells = all, too_long = all;
+    struct lent more = all, fewer_levels = all, fewer_cells = all;
     size_t k;
-    make_longest_ring(file);
+    make_longest_ring(file, 2);
     for (k = 0; k < KULDREPSO_MOST_TIMES; k++) {
         put(file, 9, 4, eight[k]);
         expected_levels[k] = kuldrepso_calculate(file, KULDREPSO_MOST_BYTES, expected + k * KULDREPSO_MOST_CELLS,
@@ -480,13 +709,10 @@ static void longest_series(void) {
     expect_series_refusal("the longest file, a level less", fewer_levels, 13);
     fewer_cells.cell_count--;
     expect_series_refusal("the longest file, a cell less", fewer_cells, 13);
-    put(file, 0, 2, KULDREPSO_MOST_BYTES + 1 - 2);
-    too_long.file_length++;
-    expect_series_refusal("a byte more than the longest, eight times", too_long, 6);
 }
 
 /* In the file without rates every division is even. The remainders of the other are from the independent calculation in
- * tests/rust. */
+ * tests/rust. The weights change none. */
 static void longest_remainders(void) {
     static const struct question even[4] = {
         {"the longest file, its last remainders", 64, 358, 8, KULDREPSO_GIVEN, {0, 0, 0}},
@@ -498,25 +724,27 @@ static void longest_remainders(void) {
         {"the longest file with rates, the last state but one", 63, 358, 8, KULDREPSO_GIVEN, {945904, 906250, 28}},
         {"the longest file with rates, the last state", 64, 358, 8, KULDREPSO_GIVEN, {178807, 0, 226}},
     };
-    static const struct question more = {"a byte more than the longest, state 0", 0, 1, 1, KULDREPSO_REFUSED + 6,
-                                         {0, 0, 0}};
     static uint8_t file[BYTES];
-    size_t k;
-    make_longest(file);
-    for (k = 0; k < 4; k++) expect_remainders(file, KULDREPSO_MOST_BYTES, &even[k]);
-    make_longest_ring(file);
-    put(file, 9, 4, 256);
-    for (k = 0; k < 2; k++) expect_remainders(file, KULDREPSO_MOST_BYTES, &ring[k]);
-    put(file, 0, 2, KULDREPSO_MOST_BYTES + 1 - 2);
-    expect_remainders(file, KULDREPSO_MOST_BYTES + 1, &more);
+    size_t k, length;
+    int version;
+    for (version = 1; version <= 2; version++) {
+        length = make_longest(file, version);
+        for (k = 0; k < 4; k++) expect_remainders(file, length, &even[k]);
+        length = make_longest_ring(file, version);
+        put(file, 9, 4, 256);
+        for (k = 0; k < 2; k++) expect_remainders(file, length, &ring[k]);
+    }
 }
 
 int main(void) {
     papers();
     series_papers();
     remainders_papers();
+    move_papers();
+    wrong_sums();
     no_elements();
     longest();
+    longest_moves();
     longest_series();
     longest_remainders();
     if (faults > 0) {

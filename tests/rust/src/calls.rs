@@ -2,7 +2,7 @@
 //! what its inputs must reach.
 
 use crate::lent::Lent;
-use crate::models::{self, Input, RemaindersInput, SeriesInput};
+use crate::models::{self, Input, MoveInput, RemaindersInput, SeriesInput};
 use crate::{independent, library};
 
 /// The number that an accepting call returns, or the row that refuses.
@@ -45,7 +45,7 @@ pub type Ends = &'static [&'static [&'static str]];
 pub trait Case {
     /// The call's name.
     const CALL: &'static str;
-    /// The rows of its table.
+    /// The rows of its table that can be the first to hold, in its order.
     const ROWS: &'static [u8];
     const ENDS: Ends;
     /// The call as a function.
@@ -79,23 +79,127 @@ pub fn both<C: Case>(input: &C) -> Result<(Answer, Written), String> {
     Ok((proved.answer, written))
 }
 
-/// M × R of an accepted file.
+/// The cells that one time takes for an accepted file: M × R, and in version 2 R more.
 fn block(file: &[u8]) -> usize {
-    usize::from(file[3]) * usize::from(file[4])
+    let figures = usize::from(file[3]) + usize::from(file[2] == 2);
+    figures * usize::from(file[4])
 }
 
-/// Every moment is at most one.
-fn at_most_one(moments: &[u64]) -> Result<(), String> {
-    match moments.iter().find(|&&moment| moment > 1_000_000_000_000) {
+/// Every moment and every start figure is at most one.
+fn at_most_one(cells: &[u64]) -> Result<(), String> {
+    match cells.iter().find(|&&cell| cell > 1_000_000_000_000) {
         None => Ok(()),
-        Some(moment) => Err(format!("{moment} is no moment")),
+        Some(cell) => Err(format!("{cell} is no moment and no start figure")),
+    }
+}
+
+/// The sum of the starting weights.
+const MILLION: u64 = 1_000_000;
+
+/// The starting weights of a file that no row up to 8 stops; none in version 1.
+fn start(file: &[u8]) -> Vec<u64> {
+    let count = if file[2] == 2 { usize::from(file[3]) } else { 0 };
+    let word = |bytes: &[u8]| bytes.iter().fold(0, |sum, &byte| sum << 8 | u64::from(byte));
+    file[13..13 + 4 * count].chunks(4).map(word).collect()
+}
+
+const VERSION_1: &str = "accepted, version 1";
+const VERSION_2: &str = "accepted, version 2";
+/// Where the weight is, in an accepted file of version 2.
+const ON_FIRST: &str = "all weight on state 1";
+const ON_LAST: &str = "all on the last of several states";
+const ON_ANOTHER: &str = "all on a state between";
+const ON_SOME: &str = "on several states but not on all";
+const ON_ALL: &str = "on each of several states";
+const VERSION_0: &str = "3 by version 0";
+const VERSION_3: &str = "3 by version 3";
+const VERSION_255: &str = "3 by version 255";
+const LENGTH_OF_2: &str = "6 by version 2's length in version 1";
+const LENGTH_OF_1: &str = "6 by version 1's length in version 2";
+const ONE_BELOW: &str = "16 by a sum one below";
+const ONE_ABOVE: &str = "16 by a sum one above";
+const PAST_32_BITS: &str = "16 by a sum past 32 bits";
+const LOW_32_BITS: &str = "16 by a sum right in its low 32 bits alone";
+
+const ACCEPTED_VERSIONS: &[&str] = &[VERSION_1, VERSION_2, ON_FIRST, ON_LAST, ON_ANOTHER, ON_SOME, ON_ALL];
+const WRONG_VERSIONS: &[&str] = &[VERSION_0, VERSION_3, VERSION_255, LENGTH_OF_2, LENGTH_OF_1];
+const WRONG_SUMS: &[&str] = &[ONE_BELOW, ONE_ABOVE, PAST_32_BITS, LOW_32_BITS];
+
+/// Those of the ends by the version and the starting weights that a file came to.
+fn version_ends(file: &[u8], answer: Answer) -> Vec<&'static str> {
+    match answer {
+        Ok(_) if file[2] == 1 => vec![VERSION_1],
+        Ok(_) => vec![VERSION_2, place(&start(file))],
+        Err(3) => match file[2] {
+            0 => vec![VERSION_0],
+            3 => vec![VERSION_3],
+            255 => vec![VERSION_255],
+            _ => vec![],
+        },
+        Err(6) => {
+            let states = usize::from(file[3]);
+            let [of_1, of_2] = [4 * states * states, 4 * states * states + 4 * states].map(|length| length + 13);
+            match file[2] {
+                1 if file.len() == of_2 => vec![LENGTH_OF_2],
+                2 if file.len() == of_1 => vec![LENGTH_OF_1],
+                _ => vec![],
+            }
+        }
+        Err(16) => match start(file).iter().sum::<u64>() {
+            999_999 => vec![ONE_BELOW],
+            1_000_001 => vec![ONE_ABOVE],
+            sum if sum % (1 << 32) == MILLION => vec![PAST_32_BITS, LOW_32_BITS],
+            sum if sum >> 32 > 0 => vec![PAST_32_BITS],
+            _ => vec![],
+        },
+        Err(_) => vec![],
+    }
+}
+
+/// Where the weight is.
+fn place(start: &[u64]) -> &'static str {
+    let last = start.len() - 1;
+    match start.iter().position(|&weight| weight == MILLION) {
+        Some(0) => ON_FIRST,
+        Some(state) if state == last => ON_LAST,
+        Some(_) => ON_ANOTHER,
+        None if start.contains(&0) => ON_SOME,
+        None => ON_ALL,
+    }
+}
+
+const ROUNDED_BY_HALF: &str = "accepted, a start figure half a tick or more below its sum";
+
+/// In an accepted file of version 2: the moments and the start figures of a block.
+fn moments_and_figures<'a>(file: &[u8], block: &'a [u64]) -> (&'a [u64], &'a [u64]) {
+    block.split_at(usize::from(file[3]) * usize::from(file[4]))
+}
+
+/// Whether a start figure would be another by the nearest.
+fn rounded_by_half(file: &[u8], block: &[u64]) -> bool {
+    let (moments, figures) = moments_and_figures(file, block);
+    let sum = |r| -> u128 {
+        let products = start(file).into_iter().zip(moments.chunks(figures.len()));
+        products.map(|(weight, of)| u128::from(weight) * u128::from(of[r])).sum()
+    };
+    (0..figures.len()).any(|r| sum(r) % 1_000_000 >= 500_000)
+}
+
+/// With all weight on one state, the start figures are that state's moments.
+fn start_is_of_one(file: &[u8], block: &[u64]) -> Result<(), String> {
+    let (moments, figures) = moments_and_figures(file, block);
+    match start(file).iter().position(|&weight| weight == MILLION) {
+        Some(state) if moments[state * figures.len()..][..figures.len()] != *figures => {
+            Err(format!("the start figures are not the moments of state {}, which has all weight", state + 1))
+        }
+        _ => Ok(()),
     }
 }
 
 impl Case for Input {
     const CALL: &'static str = "calculate";
-    const ROWS: &'static [u8] = &[1, 2, 3, 4, 5, 6, 7, 8, 9, 10, 11, 12, 13];
-    const ENDS: Ends = &[];
+    const ROWS: &'static [u8] = &[1, 2, 3, 4, 5, 6, 7, 8, 16, 9, 10, 11, 12, 13];
+    const ENDS: Ends = &[ACCEPTED_VERSIONS, WRONG_VERSIONS, WRONG_SUMS, &[ROUNDED_BY_HALF]];
     type Function = fn(&[u8], &mut [u64]) -> Answer;
     const PROVED: Self::Function = library::calculate;
     const INDEPENDENT: Self::Function = independent::calculate;
@@ -110,11 +214,16 @@ impl Case for Input {
     }
 
     fn accepted(&self, _: u64, written: &Written) -> Result<(), String> {
-        at_most_one(&written[0].1)
+        at_most_one(&written[0].1)?;
+        start_is_of_one(&self.file, &written[0].1)
     }
 
-    fn ends(&self, _: Answer, _: &Written) -> Vec<&'static str> {
-        vec![]
+    fn ends(&self, answer: Answer, written: &Written) -> Vec<&'static str> {
+        let mut ends = version_ends(&self.file, answer);
+        if answer.is_ok() && rounded_by_half(&self.file, &written[0].1) {
+            ends.push(ROUNDED_BY_HALF);
+        }
+        ends
     }
 
     fn file(&self) -> &[u8] {
@@ -142,8 +251,11 @@ const FEW_OF_BOTH: &str = "13 by both";
 
 impl Case for SeriesInput {
     const CALL: &'static str = "series";
-    const ROWS: &'static [u8] = &[1, 2, 3, 4, 5, 6, 7, 8, 9, 10, 11, 14, 15, 12, 13];
+    const ROWS: &'static [u8] = &[1, 2, 3, 4, 5, 6, 7, 8, 16, 9, 10, 11, 14, 15, 12, 13];
     const ENDS: Ends = &[
+        ACCEPTED_VERSIONS,
+        WRONG_VERSIONS,
+        WRONG_SUMS,
         &TIMES,
         &[LEVELS_DIFFER, OWN_TIME_TOO_LATE, OWN_TIME_0, FIRST_TIME_0, NO_TIME, MANY_TIMES, EQUAL, FALLING],
         &[OWN_TIME_FITS, FEW_LEVELS, FEW_CELLS, FEW_OF_BOTH],
@@ -173,8 +285,8 @@ impl Case for SeriesInput {
         at_most_one(cells)?;
         for (k, &time) in self.times.iter().enumerate() {
             let alone = Input { file: self.with_time(time), cells: block }.run(library::calculate);
-            let moments = cells[k * block..][..block].to_vec();
-            let listed = Outcome { answer: Ok(levels[k]), written: Ok(vec![("cell", moments)]) };
+            let figures = cells[k * block..][..block].to_vec();
+            let listed = Outcome { answer: Ok(levels[k]), written: Ok(vec![("cell", figures)]) };
             listed.compare(&alone, "alone").map_err(|what| format!("time {time}: {what}"))?;
         }
         Ok(())
@@ -182,8 +294,9 @@ impl Case for SeriesInput {
 
     fn ends(&self, answer: Answer, written: &Written) -> Vec<&'static str> {
         let count = self.times.len();
-        let own = || library::calculate(&self.file, &mut [0; 512]);
-        match answer {
+        let own = || library::calculate(&self.file, &mut [0; 520]);
+        let mut ends = version_ends(&self.file, answer);
+        ends.extend(match answer {
             Ok(_) => {
                 let levels = &written[0].1;
                 let mut ends = vec![TIMES[count - 1]];
@@ -208,7 +321,8 @@ impl Case for SeriesInput {
                 (true, true) => vec![FEW_OF_BOTH],
             },
             Err(_) => vec![],
-        }
+        });
+        ends
     }
 
     fn file(&self) -> &[u8] {
@@ -229,8 +343,8 @@ const BORDERS: [[&str; 7]; 3] = [
     ["n 0", "n 1", "n N", "n N + 1", "n 2^32 + 1", "n 2^32 + N", "n 2^64 - 1"],
     ["r 0", "r 1", "r R", "r R + 1", "r 2^32 + 1", "r 2^32 + R", "r 2^64 - 1"],
 ];
-/// A refusal by each row, with a state, n and r that are outside in any file.
-const ALL_OUTSIDE: [&str; 12] = [
+/// A refusal by each row, in the table's order, with a state, n and r that are outside in any file.
+const ALL_OUTSIDE: [&str; 13] = [
     "1, all outside",
     "2, all outside",
     "3, all outside",
@@ -239,6 +353,7 @@ const ALL_OUTSIDE: [&str; 12] = [
     "6, all outside",
     "7, all outside",
     "8, all outside",
+    "16, all outside",
     "9, all outside",
     "10, all outside",
     "11, all outside",
@@ -256,8 +371,18 @@ impl RemaindersInput {
 
 impl Case for RemaindersInput {
     const CALL: &'static str = "remainders";
-    const ROWS: &'static [u8] = &[1, 2, 3, 4, 5, 6, 7, 8, 9, 10, 11, 12];
-    const ENDS: Ends = &[&[GIVEN, ALL_ABOVE_0], &NONE_BY, &BORDERS[0], &BORDERS[1], &BORDERS[2], &ALL_OUTSIDE];
+    const ROWS: &'static [u8] = &[1, 2, 3, 4, 5, 6, 7, 8, 16, 9, 10, 11, 12];
+    const ENDS: Ends = &[
+        ACCEPTED_VERSIONS,
+        WRONG_VERSIONS,
+        WRONG_SUMS,
+        &[GIVEN, ALL_ABOVE_0],
+        &NONE_BY,
+        &BORDERS[0],
+        &BORDERS[1],
+        &BORDERS[2],
+        &ALL_OUTSIDE,
+    ];
     type Function = fn(&[u8], [u64; 3], &mut u64, &mut u64, &mut u64) -> Answer;
     const PROVED: Self::Function = library::remainders;
     const INDEPENDENT: Self::Function = independent::remainders;
@@ -288,13 +413,16 @@ impl Case for RemaindersInput {
     }
 
     fn ends(&self, answer: Answer, written: &Written) -> Vec<&'static str> {
+        let mut ends = version_ends(&self.file, answer);
         if let Err(row) = answer {
-            let all_outside = self.inside(MOST) == [false; 3];
-            return if all_outside { vec![ALL_OUTSIDE[usize::from(row) - 1]] } else { vec![] };
+            if self.inside(MOST) == [false; 3] {
+                let at = Self::ROWS.iter().position(|&other| other == row).expect("a row of the table");
+                ends.push(ALL_OUTSIDE[at]);
+            }
+            return ends;
         }
         let limits = models::limits(&self.file);
         let inside = self.inside(limits);
-        let mut ends = vec![];
         if answer == Ok(library::GIVEN) {
             ends.push(GIVEN);
             if written.iter().all(|(_, remainder)| remainder[0] > 0) {
@@ -320,5 +448,115 @@ impl Case for RemaindersInput {
     fn lent(&self) -> String {
         let [state, n, r] = self.asked;
         format!("state {state}, n {n}, r {r}")
+    }
+}
+
+const OTHER_VERSION: &str = "3 by the version to be moved to";
+const EXACT: &str = "accepted, no byte more lent";
+const MORE: &str = "accepted, more bytes lent";
+const NO_BYTE: &str = "13, no byte lent";
+const ONE_BYTE_SHORT: &str = "13, one byte too few";
+const LATE_AND_NO_BYTE: &str = "12, no byte lent";
+const LATE_AND_ELSEWHERE: &str = "12, weight on another state";
+const ALL_ELSEWHERE: &str = "17, no weight on state 1";
+const ONE_ELSEWHERE: &str = "17, all but one millionth on state 1";
+const ONE_ON_LAST: &str = "17, all but one millionth on state 1, this on the last of more than two";
+const ELSEWHERE_AND_NO_BYTE: &str = "17, no byte lent";
+const OUT: &[&str] = &[EXACT, MORE, NO_BYTE, ONE_BYTE_SHORT, LATE_AND_NO_BYTE];
+const ELSEWHERE: &[&str] = &[LATE_AND_ELSEWHERE, ALL_ELSEWHERE, ONE_ELSEWHERE, ONE_ON_LAST, ELSEWHERE_AND_NO_BYTE];
+
+impl<const TO: u8> MoveInput<TO> {
+    /// The bytes that the moved file has, where no row up to 12 stops the file.
+    fn moved_length(&self) -> usize {
+        let weights = 4 * usize::from(self.file[3]);
+        if TO == 2 { self.file.len() + weights } else { self.file.len() - weights }
+    }
+}
+
+impl<const TO: u8> Case for MoveInput<TO> {
+    const CALL: &'static str = if TO == 2 { "to_version_2" } else { "to_version_1" };
+    /// A version 1 file has no weights for row 16.
+    const ROWS: &'static [u8] = if TO == 2 {
+        &[1, 2, 3, 4, 5, 6, 7, 8, 9, 10, 11, 12, 13]
+    } else {
+        &[1, 2, 3, 4, 5, 6, 7, 8, 16, 9, 10, 11, 12, 17, 13]
+    };
+    const ENDS: Ends = if TO == 2 {
+        &[&[VERSION_0, VERSION_3, VERSION_255, OTHER_VERSION, LENGTH_OF_2], OUT]
+    } else {
+        &[&[VERSION_0, VERSION_3, VERSION_255, OTHER_VERSION, LENGTH_OF_1], WRONG_SUMS, OUT, ELSEWHERE]
+    };
+    type Function = fn(&[u8], &mut [u8]) -> Answer;
+    const PROVED: Self::Function = if TO == 2 { library::to_version_2 } else { library::to_version_1 };
+    const INDEPENDENT: Self::Function = if TO == 2 { independent::to_version_2 } else { independent::to_version_1 };
+
+    fn run(&self, call: Self::Function) -> Outcome {
+        let file = Lent::holding("byte", &self.file);
+        let mut out = Lent::marked("byte out", self.out);
+        let answer = call(file.slice(), out.slice_mut());
+        let count = answer.map_or(0, |count| count as usize);
+        let written = file.unchanged().and_then(|()| Ok(vec![out.written(count)?]));
+        Outcome { answer, written }
+    }
+
+    /// The moved file has the file's level and moments, and the other call moves it back to the file.
+    fn accepted(&self, count: u64, written: &Written) -> Result<(), String> {
+        if count != self.moved_length() as u64 {
+            return Err(format!("{count} bytes, and the moved file has {}", self.moved_length()));
+        }
+        let moved: Vec<u8> = written[0].1.iter().map(|&byte| byte as u8).collect();
+        let [of_file, of_moved] = [&self.file, &moved].map(|file| {
+            let mut cells = [0; 520];
+            library::calculate(file, &mut cells).map(|level| (level, cells))
+        });
+        let (Ok((level, cells)), Ok((moved_level, moved_cells))) = (of_file, of_moved) else {
+            return Err("the file or the moved file is not accepted".to_string());
+        };
+        let moments = usize::from(self.file[3]) * usize::from(self.file[4]);
+        if level != moved_level || cells[..moments] != moved_cells[..moments] {
+            return Err("the moved file has another level or other moments".to_string());
+        }
+        let mut back = vec![0; self.file.len()];
+        let other = if TO == 2 { library::to_version_1 } else { library::to_version_2 };
+        let answer = other(&moved, &mut back);
+        match answer {
+            Ok(length) if length == self.file.len() as u64 && back == self.file => Ok(()),
+            _ => Err(format!("there and back does not return the file, and answers {answer:?}")),
+        }
+    }
+
+    fn ends(&self, answer: Answer, _: &Written) -> Vec<&'static str> {
+        let mut ends = version_ends(&self.file, answer);
+        match answer {
+            Ok(count) => ends.push(if count == self.out as u64 { EXACT } else { MORE }),
+            Err(3) if self.file[2] == TO => ends.push(OTHER_VERSION),
+            Err(12) => {
+                ends.extend((self.out == 0).then_some(LATE_AND_NO_BYTE));
+                let elsewhere = start(&self.file).iter().skip(1).any(|&weight| weight > 0);
+                ends.extend(elsewhere.then_some(LATE_AND_ELSEWHERE));
+            }
+            Err(17) => {
+                let start = start(&self.file);
+                let one = start[0] == MILLION - 1;
+                ends.extend((start[0] == 0).then_some(ALL_ELSEWHERE));
+                ends.extend(one.then_some(ONE_ELSEWHERE));
+                ends.extend((one && start.len() > 2 && start.ends_with(&[1])).then_some(ONE_ON_LAST));
+                ends.extend((self.out == 0).then_some(ELSEWHERE_AND_NO_BYTE));
+            }
+            Err(13) => {
+                ends.extend((self.out == 0).then_some(NO_BYTE));
+                ends.extend((self.out + 1 == self.moved_length()).then_some(ONE_BYTE_SHORT));
+            }
+            Err(_) => {}
+        }
+        ends
+    }
+
+    fn file(&self) -> &[u8] {
+        &self.file
+    }
+
+    fn lent(&self) -> String {
+        format!("{} bytes for the moved file", self.out)
     }
 }

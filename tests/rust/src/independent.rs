@@ -1,5 +1,6 @@
 //! The calculation of document 01 with the last division of document 02's S-1, for the file's own time or for a list of
-//! times (S-3), and the remainders of its divisions (S-4), written from the papers alone, in plain u128 arithmetic.
+//! times (S-3), the remainders of its divisions (S-4), and files with a starting distribution and their converter (S-5),
+//! written from the papers alone, in plain u128 arithmetic.
 //!
 //! Nothing here was taken from the proved code: not its helper, not its order of work. Every product is
 //! formed whole in 128 bits and divided once, so each line can be read against the paper's sentence.
@@ -9,10 +10,13 @@
 const ONE: u128 = 1_000_000_000_000;
 /// 10^15, the weight w(m).
 const PEAK: u128 = 1_000_000_000_000_000;
-/// Millionths in a whole: X is counted in millionths of an expected jump.
+/// Millionths in a whole: X is counted in millionths of an expected jump, and a starting weight in millionths.
 const MILLION: u128 = 1_000_000;
 /// Billionths in a whole: the unit of the tolerance.
 const BILLION: u128 = 1_000_000_000;
+
+/// The versions that a call reads where it does not move a file.
+const BOTH_VERSIONS: [u8; 2] = [1, 2];
 
 /// A file and its times that no row of the table holds, taken apart.
 struct Model {
@@ -22,6 +26,8 @@ struct Model {
     tolerance: u128,
     /// T, in whole hours: the file's own, or each of a list's.
     times: Vec<u128>,
+    /// The starting weights, in millionths: one for each state in version 2, none in version 1.
+    start: Vec<u128>,
     /// f, one reward rate for each state.
     rewards: Vec<u128>,
     /// c, row by row, the diagonal filled in: every row sums to E.
@@ -38,9 +44,10 @@ impl Model {
         self.rewards.len()
     }
 
-    /// M × R, the cells that one time takes.
+    /// The cells that one time takes: M × R, and in version 2 R more.
     fn block(&self) -> usize {
-        self.states() * self.highest
+        let figures = if self.start.is_empty() { self.states() } else { self.states() + 1 };
+        figures * self.highest
     }
 }
 
@@ -49,14 +56,19 @@ fn number(file: &[u8], at: usize, width: usize) -> u128 {
     file[at..at + width].iter().fold(0, |sum, &byte| sum * 256 + u128::from(byte))
 }
 
-/// A moment, which is at most ONE, or a divisor or a remainder, in 64 bits.
+/// `count` numbers of 4 bytes from `at` on.
+fn numbers(file: &[u8], at: usize, count: usize) -> Vec<u128> {
+    (0..count).map(|k| number(file, at + 4 * k, 4)).collect()
+}
+
+/// A moment or a start figure, which is at most ONE, or a divisor or a remainder, in 64 bits.
 fn narrow(number: u128) -> u64 {
     u64::try_from(number).expect("a number of at most 64 bits")
 }
 
 /// The table "What stops a file" but for row 13, row by row, with the rows that a list of times adds to it; the first row
-/// that holds is returned. `list` is None where the file is calculated for its own time.
-fn read(file: &[u8], list: Option<&[u32]>) -> Result<Model, u8> {
+/// that holds is returned. `versions` are those that the call reads. `list` is None where the file's own time is judged.
+fn read(file: &[u8], versions: &[u8], list: Option<&[u32]>) -> Result<Model, u8> {
     // 1: fewer than 13 bytes
     if file.len() < 13 {
         return Err(1);
@@ -66,8 +78,9 @@ fn read(file: &[u8], list: Option<&[u32]>) -> Result<Model, u8> {
     if length != file.len() as u128 - 2 {
         return Err(2);
     }
-    // 3: version is not 1
-    if file[2] != 1 {
+    // 3: version is not one that the call reads
+    let version = file[2];
+    if !versions.contains(&version) {
         return Err(3);
     }
     // 4: M is 0 or above 64
@@ -80,8 +93,9 @@ fn read(file: &[u8], list: Option<&[u32]>) -> Result<Model, u8> {
     if highest == 0 || highest > 8 {
         return Err(5);
     }
-    // 6: length is not 4 × M × M + 11
-    if length != (4 * states * states + 11) as u128 {
+    // 6: length is not 4 × M × M + 11, or in version 2 not 4 × M × M + 4 × M + 11
+    let starting = if version == 2 { states } else { 0 };
+    if length != (4 * states * states + 4 * starting + 11) as u128 {
         return Err(6);
     }
     // 7: ε is 0 or above 100,000,000
@@ -94,8 +108,14 @@ fn read(file: &[u8], list: Option<&[u32]>) -> Result<Model, u8> {
     if own == 0 || list.is_some_and(|list| list.first() == Some(&0)) {
         return Err(8);
     }
+    // 16: the starting weights of version 2 do not sum to 1,000,000
+    let start = numbers(file, 13, starting);
+    if version == 2 && start.iter().sum::<u128>() != MILLION {
+        return Err(16);
+    }
     // 9: a reward rate above 1,000,000
-    let rewards: Vec<u128> = (0..states).map(|i| number(file, 13 + 4 * i, 4)).collect();
+    let mut at = 13 + 4 * starting;
+    let rewards = numbers(file, at, states);
     if rewards.iter().any(|&f| f > 1_000_000) {
         return Err(9);
     }
@@ -104,7 +124,7 @@ fn read(file: &[u8], list: Option<&[u32]>) -> Result<Model, u8> {
         return Err(10);
     }
     // the rates from i to each other j, j rising, the diagonal left out (0 for now)
-    let mut at = 13 + 4 * states;
+    at += 4 * states;
     let mut chain = vec![vec![0; states]; states];
     for i in 0..states {
         for j in 0..states {
@@ -147,10 +167,10 @@ fn read(file: &[u8], list: Option<&[u32]>) -> Result<Model, u8> {
         chain[i][i] = exit - sums[i];
     }
     let largest = *rewards.iter().max().expect("at least one state");
-    Ok(Model { highest, tolerance, times, rewards, chain, exit, largest })
+    Ok(Model { highest, tolerance, times, start, rewards, chain, exit, largest })
 }
 
-/// 13: fewer level cells than times, or fewer answer cells than M × R for each time.
+/// 13: fewer level cells than times, or fewer answer cells than a block for each time.
 fn enough(model: &Model, levels: usize, cells: usize) -> Result<(), u8> {
     if levels < model.times.len() || cells < model.times.len() * model.block() {
         return Err(13);
@@ -245,8 +265,8 @@ fn last_division(a: u128, s: u128) -> u128 {
     (2 * a * ONE + s) / (2 * s)
 }
 
-/// Fills `levels[k]` with the level of time k, and from `cells[k × M × R]` on its moments: moment r of state i in
-/// cell (i − 1) × R + (r − 1) of the block, states counted from 1.
+/// Fills `levels[k]` with the level of time k, and the k-th block of `cells` with its moments: moment r of state i in
+/// cell (i − 1) × R + (r − 1) of the block, states counted from 1; in version 2 the start figures follow.
 fn work_out(model: &Model, levels: &mut [u64], cells: &mut [u64]) {
     let states = model.states();
     let weights: Vec<Vec<u128>> = model.times.iter().map(|&time| weigh(model, time)).collect();
@@ -281,31 +301,45 @@ fn work_out(model: &Model, levels: &mut [u64], cells: &mut [u64]) {
                 block[i * model.highest + (r - 1)] = narrow(moment);
             }
         }
+        if !model.start.is_empty() {
+            let (moments, figures) = block.split_at_mut(states * model.highest);
+            fill_start_figures(model, moments, figures);
+        }
+    }
+}
+
+/// For each r the sum over the states of weight times moment, over 1,000,000, down.
+fn fill_start_figures(model: &Model, moments: &[u64], figures: &mut [u64]) {
+    for (r, figure) in figures.iter_mut().enumerate() {
+        let sum: u128 =
+            model.start.iter().zip(moments.chunks(model.highest)).map(|(weight, of)| weight * u128::from(of[r])).sum();
+        *figure = narrow(sum / MILLION);
     }
 }
 
 /// Judges `file`, and where no row of the table holds fills `cells[(i − 1) × R + (r − 1)]` with the moments,
-/// states counted from 1, and returns the level N. Otherwise returns the row, and leaves the cells alone.
+/// states counted from 1, and those after them in version 2 with the start figures, and returns the level N. Otherwise
+/// returns the row, and leaves the cells alone.
 pub fn calculate(file: &[u8], cells: &mut [u64]) -> Result<u64, u8> {
     let mut levels = [0];
-    let model = read(file, None)?;
+    let model = read(file, &BOTH_VERSIONS, None)?;
     enough(&model, levels.len(), cells.len())?;
     work_out(&model, &mut levels, cells);
     Ok(levels[0])
 }
 
 /// Judges `file` together with the list `times`, and where no row of the table holds fills, for each time in the list's
-/// order, a level and a block of M × R cells, and returns the number of times. Otherwise returns the row, and leaves
+/// order, a level and a block of cells, and returns the number of times. Otherwise returns the row, and leaves
 /// the levels and the cells alone.
 #[allow(dead_code)] // not every program that uses this file calls it
 pub fn series(file: &[u8], times: &[u32], levels: &mut [u64], cells: &mut [u64]) -> Result<u64, u8> {
-    let model = read(file, Some(times))?;
+    let model = read(file, &BOTH_VERSIONS, Some(times))?;
     enough(&model, levels.len(), cells.len())?;
     work_out(&model, levels, cells);
     Ok(times.len() as u64)
 }
 
-/// What a file is measured by that no row from 1 to 12 stops.
+/// What a file is measured by that no row up to 12 stops.
 #[allow(dead_code)] // not every program that uses this file reads it
 pub struct Sizes {
     /// M, N and R: the last state, the level at the file's own time, and the highest moment.
@@ -323,13 +357,13 @@ impl Sizes {
     }
 }
 
-/// The sizes of a file; or the row from 1 to 12 that stops it.
+/// The sizes of a file; or the row up to 12 that stops it.
 #[allow(dead_code)] // not every program that uses this file calls it
 pub fn sizes(file: &[u8]) -> Result<Sizes, u8> {
-    Ok(Sizes::of(&read(file, None)?))
+    Ok(Sizes::of(&read(file, &BOTH_VERSIONS, None)?))
 }
 
-/// Judges `file` by rows 1 to 12, and where none holds writes the remainders of V, of W and of U(n,r) at the state,
+/// Judges `file` by the rows up to 12, and where none holds writes the remainders of V, of W and of U(n,r) at the state,
 /// counted from 1, and returns 0. Where the state, n or r is outside its limits it writes nothing and returns 1.
 /// Otherwise it returns the row, and writes nothing.
 #[allow(dead_code)] // not every program that uses this file calls it
@@ -340,7 +374,7 @@ pub fn remainders(
     share: &mut u64,
     mix: &mut u64,
 ) -> Result<u64, u8> {
-    let model = read(file, None)?;
+    let model = read(file, &BOTH_VERSIONS, None)?;
     let outside = |(number, limit)| number < 1 || number > limit;
     if [state, n, r].into_iter().zip(Sizes::of(&model).limits).any(outside) {
         return Ok(1);
@@ -353,4 +387,44 @@ pub fn remainders(
     *share = narrow(w.remainder);
     *mix = narrow(u.remainder);
     Ok(0)
+}
+
+/// Writes to `out` the moved file: the version, M to T as in `file`, the starting weights, and `rest`, the bytes from the
+/// rewards on. Returns the count of its bytes; or 13, and writes nothing, where `out` is too short for them.
+fn write(file: &[u8], version: u8, start: &[u32], rest: &[u8], out: &mut [u8]) -> Result<u64, u8> {
+    let mut after = vec![version];
+    after.extend(&file[3..13]);
+    after.extend(start.iter().flat_map(|weight| weight.to_be_bytes()));
+    after.extend(rest);
+    // the length, the count of all bytes after it
+    let mut moved = (after.len() as u16).to_be_bytes().to_vec();
+    moved.extend(after);
+    // 13: the output slice is too short
+    if out.len() < moved.len() {
+        return Err(13);
+    }
+    out[..moved.len()].copy_from_slice(&moved);
+    Ok(moved.len() as u64)
+}
+
+/// Judges a version 1 file, and where no row of the table holds writes it in version 2, with all weight on state 1, and
+/// returns the count of bytes. Otherwise returns the row, and writes nothing.
+#[allow(dead_code)] // not every program that uses this file calls it
+pub fn to_version_2(file: &[u8], out: &mut [u8]) -> Result<u64, u8> {
+    let model = read(file, &[1], None)?;
+    let mut start = vec![0; model.states()];
+    start[0] = 1_000_000;
+    write(file, 2, &start, &file[13..], out)
+}
+
+/// Judges a version 2 file, and where no row of the table holds writes it in version 1, without its weights, and returns
+/// the count of bytes. Otherwise returns the row, and writes nothing.
+#[allow(dead_code)] // not every program that uses this file calls it
+pub fn to_version_1(file: &[u8], out: &mut [u8]) -> Result<u64, u8> {
+    let model = read(file, &[2], None)?;
+    // 17: weight on a state other than 1
+    if model.start[1..].iter().any(|&weight| weight > 0) {
+        return Err(17);
+    }
+    write(file, 1, &[], &file[13 + 4 * model.states()..], out)
 }

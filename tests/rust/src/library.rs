@@ -29,19 +29,21 @@ extern "C" {
         share: *mut u64,
         mix: *mut u64,
     ) -> u64;
+    fn kuldrepso_to_version_2(file: *const u8, file_length: usize, out: *mut u8, out_length: usize) -> u64;
+    fn kuldrepso_to_version_1(file: *const u8, file_length: usize, out: *mut u8, out_length: usize) -> u64;
 }
 
 // SAFETY of every call: it asks nothing of the elements of a slice or of their count, nor of a number. A Rust slice's
 // pointer is never null and holds as many elements as it says, and a reference's holds one; those to write to are
 // borrowed for writing, so they overlap no other.
 
-/// Judges `file`; the level where it is accepted, with the moments in the cells, or the row that stops it.
+/// Judges `file`; the level where it is accepted, with its block in the cells, or the row that stops it.
 pub fn calculate(file: &[u8], cells: &mut [u64]) -> Result<u64, u8> {
     accepted(unsafe { kuldrepso_calculate(file.as_ptr(), file.len(), cells.as_mut_ptr(), cells.len()) })
 }
 
-/// Judges `file` with a list of times; the number of times where both are accepted, with the levels and the blocks of
-/// moments in their cells, or the row that stops them.
+/// Judges `file` with a list of times; the number of times where both are accepted, with the levels and the blocks in
+/// their cells, or the row that stops them.
 pub fn series(file: &[u8], times: &[u32], levels: &mut [u64], cells: &mut [u64]) -> Result<u64, u8> {
     accepted(unsafe {
         kuldrepso_series(
@@ -67,6 +69,20 @@ pub fn remainders(
     mix: &mut u64,
 ) -> Result<u64, u8> {
     accepted(unsafe { kuldrepso_remainders(file.as_ptr(), file.len(), state, n, r, mean, share, mix) })
+}
+
+/// Judges a version 1 file; the count of bytes where it is accepted, with the version 2 file in `out`, or the row that
+/// stops it.
+#[allow(dead_code)] // not every program that uses this file calls it
+pub fn to_version_2(file: &[u8], out: &mut [u8]) -> Result<u64, u8> {
+    accepted(unsafe { kuldrepso_to_version_2(file.as_ptr(), file.len(), out.as_mut_ptr(), out.len()) })
+}
+
+/// Judges a version 2 file; the count of bytes where it is accepted, with the version 1 file in `out`, or the row that
+/// stops it.
+#[allow(dead_code)] // not every program that uses this file calls it
+pub fn to_version_1(file: &[u8], out: &mut [u8]) -> Result<u64, u8> {
+    accepted(unsafe { kuldrepso_to_version_1(file.as_ptr(), file.len(), out.as_mut_ptr(), out.len()) })
 }
 
 /// An answer, or the row that it refuses by.

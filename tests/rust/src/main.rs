@@ -12,7 +12,7 @@ mod models;
 
 use calls::{Answer, Case, Outcome};
 use library::{GIVEN, NONE};
-use models::{Chance, Input, RemaindersInput, SeriesInput};
+use models::{Chance, Fields, Input, MoveInput, RemaindersInput, SeriesInput};
 use std::collections::BTreeMap;
 use std::panic::{catch_unwind, AssertUnwindSafe};
 use std::path::{Path, PathBuf};
@@ -25,6 +25,18 @@ const B: [u8; 29] = [
 const A_MOMENTS: [u64; 1] = [1_000_000_000_000];
 /// With document 02's S-1.
 const B_MOMENTS: [u64; 4] = [718_750_000_000, 612_500_000_000, 281_250_000_000, 175_000_000_000];
+
+/// A in version 2.
+const A2: [u8; 21] = [0, 0x13, 2, 1, 1, 0, 0, 0x27, 0x10, 0, 0, 0, 1, 0, 0x0F, 0x42, 0x40, 0, 0, 0, 5];
+const A2_FIGURES: [u64; 2] = [1_000_000_000_000; 2];
+/// B in version 2 with the weights 250,000 and 750,000.
+const B2: [u8; 37] = [
+    0, 0x23, 2, 2, 2, 5, 0xF5, 0xE1, 0, 0, 0, 0, 1, 0, 3, 0xD0, 0x90, 0, 0x0B, 0x71, 0xB0, 0, 0, 0, 1, 0, 0, 0, 0, 0,
+    0x0F, 0x42, 0x40, 0, 0x0F, 0x42, 0x40,
+];
+/// The start figures by hand: a quarter of state 1's moment and three quarters of state 2's.
+const B2_FIGURES: [u64; 6] =
+    [718_750_000_000, 612_500_000_000, 281_250_000_000, 175_000_000_000, 390_625_000_000, 284_375_000_000];
 
 /// What was compared, and how the inputs ended.
 struct Tally {
@@ -72,6 +84,14 @@ impl Tally {
         }
     }
 
+    /// An input that the papers accept, without its numbers.
+    fn accepts<C: Case>(&mut self, name: &str, input: &C) {
+        if input.run(C::PROVED).answer.is_err() {
+            self.stop(name, input, "the paper accepts it");
+        }
+        self.compare(name, input);
+    }
+
     fn count(&self, call: &'static str, end: &str) -> usize {
         self.ends.get(&(call, end.to_string())).copied().unwrap_or(0)
     }
@@ -81,8 +101,11 @@ impl Tally {
         let count = |end: &str| self.count(C::CALL, end);
         let rows: Vec<String> = C::ROWS.iter().map(u8::to_string).collect();
         let refused: Vec<String> = rows.iter().map(|row| format!("{row}: {}", count(row))).collect();
-        let accepted = grouped(count("accepted"));
-        println!("seed {seed}, {}: {accepted} accepted; refused by row {}", C::CALL, refused.join(", "));
+        let accepted = count("accepted");
+        let inputs = accepted + rows.iter().map(|row| count(row)).sum::<usize>();
+        let [inputs, accepted] = [inputs, accepted].map(grouped);
+        let (call, refused) = (C::CALL, refused.join(", "));
+        println!("seed {seed}, {call}: {inputs} inputs, {accepted} accepted; refused by row {refused}");
         for group in C::ENDS {
             let ends: Vec<String> = group.iter().map(|end| format!("{end}: {}", count(end))).collect();
             println!("  of them {}", ends.join("; "));
@@ -95,26 +118,32 @@ impl Tally {
     }
 }
 
-/// A or B with the four bytes from `at` put to `word`.
+/// A file with the four bytes from `at` put to `word`.
 fn with(file: &[u8], at: usize, word: u32) -> Vec<u8> {
     let mut file = file.to_vec();
     file[at..at + 4].copy_from_slice(&word.to_be_bytes());
     file
 }
 
-/// A or B with one byte changed.
+/// A file with one byte changed.
 fn with_byte(file: &[u8], at: usize, byte: u8) -> Vec<u8> {
     let mut file = file.to_vec();
     file[at] = byte;
     file
 }
 
-/// Document 01's small example of each row from 1 to 11, its hand-checked files that one of these rows stops, and others.
+/// B in version 2 with these weights.
+fn with_start(first: u32, second: u32) -> Vec<u8> {
+    with(&with(&B2, 13, first), 17, second)
+}
+
+/// Document 01's small example of each row from 1 to 11, its hand-checked files that one of these rows stops, and others;
+/// then such files of version 2.
 fn stopped() -> Vec<(&'static str, Vec<u8>, u8)> {
     vec![
         ("the empty file", vec![], 1),
         ("A without its last byte", A[..16].to_vec(), 2),
-        ("A, version 2", with_byte(&A, 2, 2), 3),
+        ("A, version 3", with_byte(&A, 2, 3), 3),
         ("A, no state", with_byte(&A, 3, 0), 4),
         ("A, highest moment 9", with_byte(&A, 4, 9), 5),
         ("A, 2 states", with_byte(&A, 3, 2), 6),
@@ -127,37 +156,170 @@ fn stopped() -> Vec<(&'static str, Vec<u8>, u8)> {
         ("B, version 9 and no state", with_byte(&with_byte(&B, 2, 9), 3, 0), 3),
         ("B, tolerance 100,000,001", with(&B, 5, 100_000_001), 7),
         ("B, version 0", with_byte(&B, 2, 0), 3),
+        ("A, version 2", with_byte(&A, 2, 2), 6),
+        ("B, version 2", with_byte(&B, 2, 2), 6),
+        ("A2 without its last byte", A2[..20].to_vec(), 2),
+        ("A2, version 0", with_byte(&A2, 2, 0), 3),
+        ("A2, version 3", with_byte(&A2, 2, 3), 3),
+        ("A2, version 255", with_byte(&A2, 2, 255), 3),
+        ("A2, no state", with_byte(&A2, 3, 0), 4),
+        ("A2, highest moment 9", with_byte(&A2, 4, 9), 5),
+        ("A2, version 1", with_byte(&A2, 2, 1), 6),
+        ("B2, version 1", with_byte(&B2, 2, 1), 6),
+        ("A2, 2 states", with_byte(&A2, 3, 2), 6),
+        ("A2, tolerance 0", with(&A2, 5, 0), 7),
+        ("A2, time 0", with(&A2, 9, 0), 8),
+        ("A2, weight 999,999", with(&A2, 13, 999_999), 16),
+        ("A2, weight 1,000,001", with(&A2, 13, 1_000_001), 16),
+        ("A2, weight 0", with(&A2, 13, 0), 16),
+        ("A2, weight 2^31 + 1,000,000", with(&A2, 13, (1 << 31) + 1_000_000), 16),
+        ("B2, weights one below", with_start(250_000, 749_999), 16),
+        ("B2, weights one above", with_start(250_001, 750_000), 16),
+        ("B2, weights 2^32 - 1", with_start(u32::MAX, u32::MAX), 16),
+        ("B2, weights right in their low 32 bits", with_start(u32::MAX, 1_000_001), 16),
+        ("A2, reward 1,000,001", with(&A2, 17, 1_000_001), 9),
+        ("A2, reward 0", with(&A2, 17, 0), 10),
+        ("B2, first rate 10,000,001", with(&B2, 29, 10_000_001), 11),
     ]
 }
 
-/// The same, and the example of row 12, for calls at the file's own time.
+/// The same, and the example of row 12 in both versions, for calls at the file's own time.
 fn stopped_at_own_time() -> Vec<(&'static str, Vec<u8>, u8)> {
     let mut files = stopped();
     files.push(("B, time 257", with(&B, 9, 257), 12));
+    files.push(("B2, time 257", with(&B2, 9, 257), 12));
     files
 }
 
-/// The files of document 01: its examples of the table, and its hand-checked list.
+/// Rows that `broken` cannot make hold together: both are about the time, or about one reward.
+const APART: [[u8; 2]; 2] = [[8, 12], [9, 10]];
+
+/// B, in version 2 with all weight on state 1, changed so that those of the two rows hold that are about the file alone.
+fn broken(version: u8, rows: [u8; 2]) -> Vec<u8> {
+    let mut fields = Fields {
+        version,
+        states: 2,
+        highest: 2,
+        tolerance: 100_000_000,
+        time: 1,
+        start: if version == 2 { models::start_on(0, 2) } else { vec![] },
+        rewards: vec![1, 0],
+        rates: vec![1_000_000; 2],
+    };
+    for row in rows {
+        match row {
+            3 => fields.version = 9,
+            4 => fields.states = 0,
+            5 => fields.highest = 9,
+            6 => fields.rates.push(0),
+            7 => fields.tolerance = 0,
+            8 => fields.time = 0,
+            9 => fields.rewards[0] = 1_000_001,
+            10 => fields.rewards.fill(0),
+            11 => fields.rates[0] = 10_000_001,
+            12 => fields.time = u32::MAX,
+            16 => fields.start[0] += 1,
+            17 => fields.start = vec![fields.start[0] - 1, 1],
+            _ => {}
+        }
+    }
+    let mut file = fields.bytes();
+    if rows.contains(&2) {
+        file.push(0);
+    }
+    if rows.contains(&1) {
+        file.truncate(12);
+    }
+    file
+}
+
+/// Each two rows of the call's table hold together, and the first in its order is to be told. `input` makes the rows hold
+/// that are not about the file alone.
+fn two_rows<C: Case>(tally: &mut Tally, version: u8, input: impl Fn(Vec<u8>, [u8; 2]) -> C) {
+    let applies = |row: &u8| version == 2 || ![16, 17].contains(row);
+    let rows: Vec<u8> = C::ROWS.iter().copied().filter(applies).collect();
+    for (at, &first) in rows.iter().enumerate() {
+        for &second in &rows[at + 1..] {
+            let both = [first, second];
+            if !APART.contains(&both) {
+                let name = format!("rows {first} and {second} in version {version}");
+                tally.hand_checked(&name, &input(broken(version, both), both), Err(first), &[]);
+            }
+        }
+    }
+}
+
+/// `number`, or one less where row 13 is to hold.
+fn or_short(number: usize, rows: [u8; 2]) -> usize {
+    if rows.contains(&13) { number - 1 } else { number }
+}
+
+/// Files of version 2, of 1 state to 64, with starting weights of every kind: sums of 1,000,000, and others.
+fn starts<C: Case>(tally: &mut Tally, chance: &mut Chance, input: impl Fn(&Fields) -> C) {
+    for states in [1, 2, 3, 7, 64] {
+        let mut fields = models::accepted(chance, 2, states, states % 8 + 1);
+        fields.time = 1;
+        let count = usize::from(states);
+        let mut right: Vec<Vec<u32>> = (0..count).map(|state| models::start_on(state, count)).collect();
+        right.extend((0..20).map(|_| models::start_of(chance, 1_000_000, states)));
+        for start in right {
+            fields.start = start;
+            if C::ROWS.contains(&17) && fields.start[0] != 1_000_000 {
+                tally.hand_checked("weight elsewhere", &input(&fields), Err(17), &[]);
+            } else {
+                tally.accepts("weights that sum to 1,000,000", &input(&fields));
+            }
+        }
+        for sum in models::wrong_sums(states) {
+            for _ in 0..4 {
+                fields.start = models::start_of(chance, sum, states);
+                tally.hand_checked(&format!("weights that sum to {sum}"), &input(&fields), Err(16), &[]);
+            }
+        }
+    }
+}
+
+/// The files of document 01: its examples of the table, and its hand-checked list; and such files of version 2.
 fn papers(tally: &mut Tally) {
     let input = |file: &[u8], cells| Input { file: file.to_vec(), cells };
     tally.hand_checked("A", &input(&A, 1), Ok(1), &[&A_MOMENTS]);
-    tally.hand_checked("B", &input(&B, 512), Ok(3), &[&B_MOMENTS]);
+    tally.hand_checked("B", &input(&B, 520), Ok(3), &[&B_MOMENTS]);
     tally.hand_checked("B with 4 cells", &input(&B, 4), Ok(3), &[&B_MOMENTS]);
+    tally.hand_checked("A2", &input(&A2, 2), Ok(1), &[&A2_FIGURES]);
+    tally.hand_checked("B2", &input(&B2, 520), Ok(3), &[&B2_FIGURES]);
+    tally.hand_checked("B2 with 6 cells", &input(&B2, 6), Ok(3), &[&B2_FIGURES]);
     for (name, file, row) in stopped_at_own_time() {
-        tally.hand_checked(name, &input(&file, 512), Err(row), &[&[]]);
+        tally.hand_checked(name, &input(&file, 520), Err(row), &[&[]]);
+        tally.hand_checked(name, &input(&file, 0), Err(row), &[&[]]);
     }
     tally.hand_checked("B with 3 cells", &input(&B, 3), Err(13), &[&[]]);
+    tally.hand_checked("A2 with 1 cell", &input(&A2, 1), Err(13), &[&[]]);
+    for cells in 0..6 {
+        tally.hand_checked("B2 with too few cells", &input(&B2, cells), Err(13), &[&[]]);
+    }
     for (name, file) in [
         ("B, time 256", with(&B, 9, 256)),
         ("B, first rate 10,000,000", with(&B, 21, 10_000_000)),
         ("B, tolerance 1", with(&B, 5, 1)),
     ] {
-        let input = input(&file, 4);
-        if library::calculate(&file, &mut [0; 4]).is_err() {
-            tally.stop(name, &input, "the paper accepts it");
-        }
-        tally.compare(name, &input);
+        tally.accepts(name, &input(&file, 4));
     }
+    for version in [1, 2] {
+        let cells = if version == 2 { 6 } else { 4 };
+        two_rows(tally, version, |file, rows| Input { file, cells: or_short(cells, rows) });
+    }
+}
+
+/// Times for B where those of the two rows hold that are about a list.
+fn broken_times(rows: [u8; 2]) -> Vec<u32> {
+    let mut times = if rows.contains(&14) { vec![1, 2, 3, 4, 5, 6, 7, 8, 9] } else { vec![1, 2] };
+    if rows.contains(&12) {
+        *times.last_mut().expect("a time") = 257;
+    }
+    if rows.contains(&15) {
+        times[0] = times[1];
+    }
+    times
 }
 
 /// Document 02's S-3 on the same files: each row, and of each two that its order decides between the first.
@@ -176,6 +338,9 @@ fn series_papers(tally: &mut Tally) {
     tally.hand_checked("B, own time 257", &input(&with(&B, 9, 257), &[1], 9, 99), Ok(1), &[&[3], &B_MOMENTS]);
     let late = with(&B, 9, u32::MAX);
     tally.hand_checked("B, own time 2^32 − 1", &input(&late, &[1], 1, 4), Ok(1), &[&[3], &B_MOMENTS]);
+    tally.hand_checked("A2, eight times", &input(&A2, &eight, 8, 16), Ok(8), &[&[1; 8], &[A2_FIGURES[0]; 16]]);
+    tally.hand_checked("B2", &input(&B2, &[1], 1, 6), Ok(1), &[&[3], &B2_FIGURES]);
+    tally.hand_checked("B2, own time 257", &input(&with(&B2, 9, 257), &[1], 9, 99), Ok(1), &[&[3], &B2_FIGURES]);
 
     for (name, file, row) in stopped() {
         for times in [&[1][..], &[], &[0], &nine, &[1, 1], &[u32::MAX]] {
@@ -187,7 +352,7 @@ fn series_papers(tally: &mut Tally) {
         }
     }
     let early = with(&B, 9, 0);
-    let rows: [(&str, &[u8], &[u32], usize, usize, u8); 23] = [
+    let rows: [(&str, &[u8], &[u32], usize, usize, u8); 26] = [
         ("own time 0", &early, &[1], 1, 4, 8),
         ("own time 0, no time", &early, &[], 1, 4, 8),
         ("own time 0, nine times", &early, &nine, 9, 36, 8),
@@ -211,9 +376,19 @@ fn series_papers(tally: &mut Tally) {
         ("too few levels", &B, &[1, 2], 1, 8, 13),
         ("too few cells", &B, &[1, 2], 2, 7, 13),
         ("too few of both", &B, &[1, 2], 0, 0, 13),
+        ("version 2, too few levels", &B2, &[1, 2], 1, 12, 13),
+        ("version 2, too few cells", &B2, &[1, 2], 2, 11, 13),
+        ("version 2, cells for the moments alone", &B2, &[1, 2], 2, 8, 13),
     ];
     for (name, file, times, levels, cells, row) in rows {
         tally.hand_checked(&format!("B, {name}"), &input(file, times, levels, cells), Err(row), &[&[], &[]]);
+    }
+    for version in [1, 2] {
+        let block = if version == 2 { 6 } else { 4 };
+        two_rows(tally, version, |file, rows| {
+            let times = broken_times(rows);
+            SeriesInput { file, levels: times.len(), cells: or_short(times.len() * block, rows), times }
+        });
     }
 }
 
@@ -225,7 +400,7 @@ fn uneven() -> Vec<u8> {
 /// Document 02's S-4 on the same files. The remainders are worked out by hand from document 01's steps.
 fn remainders_papers(tally: &mut Tally) {
     let input = |file: &[u8], asked| RemaindersInput { file: file.to_vec(), asked };
-    let given: [(&str, &[u8], [u64; 3], [u64; 3]); 17] = [
+    let given: [(&str, &[u8], [u64; 3], [u64; 3]); 20] = [
         ("A", &A, [1, 1, 1], [0, 0, 0]),
         ("B", &B, [1, 1, 1], [0, 0, 0]),
         ("B", &B, [2, 1, 1], [0, 0, 0]),
@@ -243,12 +418,15 @@ fn remainders_papers(tally: &mut Tally) {
         ("B, uneven", &uneven(), [2, 1, 1], [3, 1, 1]),
         ("B, uneven", &uneven(), [1, 1, 2], [0, 0, 0]),
         ("B, uneven", &uneven(), [2, 1, 2], [1, 2, 2]),
+        ("A2", &A2, [1, 1, 1], [0, 0, 0]),
+        ("B2", &B2, [1, 3, 1], [0, 0, 3]),
+        ("B2", &B2, [2, 3, 2], [0, 0, 2]),
     ];
     for (name, file, asked, [mean, share, mix]) in given {
         tally.hand_checked(name, &input(file, asked), Ok(GIVEN), &[&[mean], &[share], &[mix]]);
     }
     for (name, file, [states, level, highest]) in
-        [("A", &A[..], [1, 1, 1]), ("B", &B, [2, 3, 2]), ("B, uneven", &uneven(), [2, 1, 2])]
+        [("A", &A[..], [1, 1, 1]), ("B", &B, [2, 3, 2]), ("B, uneven", &uneven(), [2, 1, 2]), ("B2", &B2, [2, 3, 2])]
     {
         for outside in [0, 9, 1 << 32, (1 << 32) + 1, u64::MAX] {
             for asked in [[outside, 1, 1], [1, outside, 1], [1, 1, outside], [outside; 3]] {
@@ -264,18 +442,75 @@ fn remainders_papers(tally: &mut Tally) {
             tally.hand_checked(name, &input(&file, asked), Err(row), &[&[], &[], &[]]);
         }
     }
+    for version in [1, 2] {
+        for asked in [[1; 3], [0; 3]] {
+            two_rows(tally, version, |file, _| RemaindersInput { file, asked });
+        }
+    }
+}
+
+/// The stopped files in a move to version TO: one that is not of the other version is stopped by row 3 at the latest.
+fn moves_stopped<const TO: u8>(tally: &mut Tally) {
+    for (name, file, row) in stopped_at_own_time() {
+        let row = if row > 3 && file[2] != MoveInput::<TO>::FROM { 3 } else { row };
+        for out in [0, 64] {
+            tally.hand_checked(name, &MoveInput::<TO> { file: file.clone(), out }, Err(row), &[&[]]);
+        }
+    }
+}
+
+/// A file, and the same moved to version TO as document 02's S-5 has it, with every number of bytes lent.
+fn moved_pair<const TO: u8>(tally: &mut Tally, name: &str, file: &[u8], moved: &[u8]) {
+    let words: Vec<u64> = moved.iter().map(|&byte| u64::from(byte)).collect();
+    for out in 0..=moved.len() + 4 {
+        let input = MoveInput::<TO> { file: file.to_vec(), out };
+        if out < moved.len() {
+            tally.hand_checked(name, &input, Err(13), &[&[]]);
+        } else {
+            tally.hand_checked(name, &input, Ok(moved.len() as u64), &[&words]);
+        }
+    }
+}
+
+fn to_version_2_papers(tally: &mut Tally) {
+    moved_pair::<2>(tally, "A", &A, &A2);
+    moved_pair::<2>(tally, "B", &B, &with_start(1_000_000, 0));
+    moves_stopped::<2>(tally);
+    for file in [&A2[..], &B2, &with_start(1_000_000, 0)] {
+        tally.hand_checked("of version 2", &MoveInput::<2> { file: file.to_vec(), out: 64 }, Err(3), &[&[]]);
+    }
+    two_rows(tally, 1, |file, rows| MoveInput::<2> { file, out: or_short(37, rows) });
+}
+
+fn to_version_1_papers(tally: &mut Tally) {
+    let input = |file: &[u8], out| MoveInput::<1> { file: file.to_vec(), out };
+    moved_pair::<1>(tally, "A2", &A2, &A);
+    moved_pair::<1>(tally, "B2, all weight on state 1", &with_start(1_000_000, 0), &B);
+    moves_stopped::<1>(tally);
+    for file in [&A[..], &B] {
+        tally.hand_checked("of version 1", &input(file, 64), Err(3), &[&[]]);
+    }
+    for (first, second) in [(250_000, 750_000), (999_999, 1), (0, 1_000_000)] {
+        let file = with_start(first, second);
+        for out in [0, 28, 29, 37, 64] {
+            tally.hand_checked("weight on state 2", &input(&file, out), Err(17), &[&[]]);
+            tally.hand_checked("weight on state 2, time 257", &input(&with(&file, 9, 257), out), Err(12), &[&[]]);
+        }
+    }
+    two_rows(tally, 2, |file, rows| MoveInput::<1> { file, out: or_short(29, rows) });
 }
 
 /// Longer than the length field can say: the field agrees with the low 16 bits of the count.
-fn too_long() -> Vec<u8> {
-    let mut file = B.to_vec();
-    file.resize(B.len() + 65_536, 0);
+fn too_long(file: &[u8]) -> Vec<u8> {
+    let mut file = file.to_vec();
+    file.resize(file.len() + 65_536, 0);
     file
 }
 
-/// Every value of one header byte at a time, and every cut.
+/// Every value of one byte before the rewards at a time, and every cut.
 fn headers_and_cuts<C: Case>(tally: &mut Tally, file: &[u8], input: impl Fn(Vec<u8>) -> C) {
-    for at in 0..13 {
+    let header = if file[2] == 2 { 13 + 4 * usize::from(file[3]) } else { 13 };
+    for at in 0..header {
         for byte in 0..=255 {
             tally.compare(&format!("byte {at} is {byte}"), &input(with_byte(file, at, byte)));
         }
@@ -285,26 +520,28 @@ fn headers_and_cuts<C: Case>(tally: &mut Tally, file: &[u8], input: impl Fn(Vec<
     }
 }
 
-/// Every value of one thing at a time: a header byte, where a file is cut, how many cells are lent.
+/// Every value of one thing at a time: a byte before the rewards, where a file is cut, how many cells are lent.
 fn sweeps(tally: &mut Tally, chance: &mut Chance) {
-    for file in [&A[..], &B[..]] {
-        headers_and_cuts(tally, file, |file| Input { file, cells: 16 });
+    for file in [&A[..], &B, &A2, &B2] {
+        headers_and_cuts(tally, file, |file| Input { file, cells: 24 });
     }
-    for _ in 0..12 {
+    for k in 0..24 {
         let (states, highest) = (chance.between(1, 6) as u8, chance.between(1, 8) as u8);
-        let file = models::accepted(chance, states, highest).bytes();
-        for cells in 0..=usize::from(states) * usize::from(highest) + 3 {
-            tally.compare("every number of cells", &Input { file: file.clone(), cells });
+        let fields = models::accepted(chance, 1 + k % 2, states, highest);
+        for cells in 0..=fields.block() + 3 {
+            tally.compare("every number of cells", &Input { file: fields.bytes(), cells });
         }
     }
-    tally.compare("65,536 bytes too many", &Input { file: too_long(), cells: 512 });
+    for file in [&B[..], &B2] {
+        tally.compare("65,536 bytes too many", &Input { file: too_long(file), cells: 520 });
+    }
+    starts(tally, chance, |fields| Input { file: fields.bytes(), cells: fields.block() });
 }
 
-/// Lists of 0 to 10 times with every number of levels and the cells about every number of blocks; every value of a header
-/// byte, every cut; every time for B.
+/// Lists of 0 to 10 times with every number of levels and the cells about every number of blocks; every value of a byte
+/// before the rewards, every cut; every time for B.
 fn series_sweeps(tally: &mut Tally, chance: &mut Chance) {
-    for file in [&A[..], &B[..]] {
-        let block = usize::from(file[3]) * usize::from(file[4]);
+    for (file, block) in [(&A[..], 1), (&B, 4), (&A2, 2), (&B2, 6)] {
         for count in 0..=10 {
             let times = models::rising(chance, count, 256);
             for levels in 0..=count + 2 {
@@ -315,16 +552,24 @@ fn series_sweeps(tally: &mut Tally, chance: &mut Chance) {
                 }
             }
         }
-        headers_and_cuts(tally, file, |file| SeriesInput { file, times: vec![1, 3], levels: 3, cells: 18 });
+        headers_and_cuts(tally, file, |file| SeriesInput { file, times: vec![1, 3], levels: 3, cells: 26 });
     }
-    for time in 0..=258 {
-        let input = SeriesInput { file: B.to_vec(), times: vec![time], levels: 1, cells: 4 };
-        tally.compare("every time", &input);
-        let times = vec![time, time + 1, time + 2];
-        tally.compare("every time and the next two", &SeriesInput { times, levels: 3, cells: 12, ..input });
+    for (file, block) in [(&B[..], 4), (&B2, 6)] {
+        for time in 0..=258 {
+            let input = SeriesInput { file: file.to_vec(), times: vec![time], levels: 1, cells: block };
+            tally.compare("every time", &input);
+            let times = vec![time, time + 1, time + 2];
+            tally.compare("every time and the next two", &SeriesInput { times, levels: 3, cells: 3 * block, ..input });
+        }
+        let input = SeriesInput { file: too_long(file), times: vec![1], levels: 1, cells: block };
+        tally.compare("65,536 bytes too many", &input);
     }
-    let input = SeriesInput { file: too_long(), times: vec![1], levels: 1, cells: 4 };
-    tally.compare("65,536 bytes too many", &input);
+    starts(tally, chance, |fields| SeriesInput {
+        file: fields.bytes(),
+        times: vec![1, 2],
+        levels: 2,
+        cells: 2 * fields.block(),
+    });
 }
 
 /// Each of these states with each n and each r.
@@ -352,7 +597,8 @@ fn remainders_up_to_limits(tally: &mut Tally, file: &[u8]) {
 fn low_level(chance: &mut Chance) -> Vec<u8> {
     loop {
         let (states, highest) = (chance.between(1, 3) as u8, chance.between(1, 8) as u8);
-        let file = models::accepted(chance, states, highest).bytes();
+        let version = models::either_version(chance);
+        let file = models::accepted(chance, version, states, highest).bytes();
         let [_, level, _] = models::limits(&file);
         if level <= 24 {
             return file;
@@ -360,10 +606,10 @@ fn low_level(chance: &mut Chance) -> Vec<u8> {
     }
 }
 
-/// Every value of a header byte, every cut; state, n and r at their borders, for stopped files too; every state, n and r
-/// of files with a low level.
+/// Every value of a byte before the rewards, every cut; state, n and r at their borders, for stopped files too; every
+/// state, n and r of files with a low level.
 fn remainders_sweeps(tally: &mut Tally, chance: &mut Chance) {
-    for file in [&A[..], &B[..]] {
+    for file in [&A[..], &B, &A2, &B2] {
         let asked = models::limits(file);
         headers_and_cuts(tally, file, |file| RemaindersInput { file, asked });
         remainders_at_borders(tally, "borders", file, asked);
@@ -372,57 +618,87 @@ fn remainders_sweeps(tally: &mut Tally, chance: &mut Chance) {
     for (name, file, _) in stopped_at_own_time() {
         remainders_at_borders(tally, name, &file, models::limits(&B));
     }
-    for _ in 0..12 {
+    for k in 0..12 {
         let (states, highest) = (chance.between(1, 6) as u8, chance.between(1, 8) as u8);
-        let file = models::accepted(chance, states, highest).bytes();
+        let file = models::accepted(chance, 1 + k % 2, states, highest).bytes();
         remainders_at_borders(tally, "borders", &file, models::limits(&file));
     }
     for _ in 0..8 {
         remainders_up_to_limits(tally, &low_level(chance));
     }
-    tally.compare("65,536 bytes too many", &RemaindersInput { file: too_long(), asked: [1, 1, 1] });
+    for file in [&B[..], &B2] {
+        tally.compare("65,536 bytes too many", &RemaindersInput { file: too_long(file), asked: [1, 1, 1] });
+    }
+    starts(tally, chance, |fields| RemaindersInput { file: fields.bytes(), asked: [1, 1, 1] });
+}
+
+/// Every value of a byte before the rewards, every cut; every number of bytes lent for the moved file.
+fn move_sweeps<const TO: u8>(tally: &mut Tally, chance: &mut Chance, files: [&[u8]; 2]) {
+    for file in files {
+        headers_and_cuts(tally, file, |file| MoveInput::<TO> { file, out: 40 });
+        tally.compare("65,536 bytes too many", &MoveInput::<TO> { file: too_long(file), out: 66_000 });
+    }
+    for _ in 0..12 {
+        let (states, highest) = (chance.between(1, 6) as u8, chance.between(1, 8) as u8);
+        let whole = models::whole_move::<TO>(chance, states, highest);
+        for out in 0..=whole.out + 3 {
+            tally.compare("every number of bytes", &MoveInput::<TO> { file: whole.file.clone(), out });
+        }
+    }
 }
 
 /// Many states: all numbers of states from 8 up, every R among them.
 fn large(tally: &mut Tally, chance: &mut Chance) {
     for states in 8..=64 {
-        let highest = states % 8 + 1;
-        let mut fields = models::accepted(chance, states, highest);
-        let cells = models::cells(chance, states, highest).max(usize::from(states) * usize::from(highest));
+        let version = models::either_version(chance);
+        let mut fields = models::accepted(chance, version, states, states % 8 + 1);
+        let cells = models::cells(chance, &fields).max(fields.block());
         tally.compare("many states", &Input { file: fields.bytes(), cells });
-        let row = chance.between(3, 12);
-        models::damage(chance, &mut fields, row);
+        models::damage_any(chance, &mut fields);
         tally.compare("many states, damaged", &Input { file: fields.bytes(), cells });
     }
 }
 
-/// Lists of 1 to 8 times for many states; the last has 64 states, R = 8 and 8 times.
+/// Lists of 1 to 8 times for many states; the last has 64 states, R = 8, starting weights and 8 times.
 fn series_large(tally: &mut Tally, chance: &mut Chance) {
     for count in 1..=8 {
-        let (states, highest) = (8 + 7 * count as u8, chance.between(1, 8) as u8);
-        tally.compare("many states", &models::whole_series(chance, states, highest, count));
+        for version in [1, 2] {
+            tally.compare("many states", &models::whole_series(chance, version, 8 + 7 * count as u8, count));
+        }
     }
     let times = vec![1, 2, 4, 8, 16, 32, 48, 64];
-    let input = SeriesInput { file: models::heaviest(chance).bytes(), times, levels: 8, cells: 8 * 512 };
+    let input = SeriesInput { file: models::heaviest(chance, 2).bytes(), times, levels: 8, cells: 8 * 520 };
     tally.compare("the most of all", &input);
 }
 
 /// Remainders for many states: all numbers of states from 8 up, every R among them, whole and damaged.
 fn remainders_large(tally: &mut Tally, chance: &mut Chance) {
     for states in 8..=64 {
-        let mut fields = models::accepted(chance, states, states % 8 + 1);
+        let version = models::either_version(chance);
+        let mut fields = models::accepted(chance, version, states, states % 8 + 1);
         let asked = models::ask(chance, models::limits(&fields.bytes()));
         tally.compare("many states", &RemaindersInput { file: fields.bytes(), asked });
-        let row = chance.between(3, 12);
-        models::damage(chance, &mut fields, row);
+        models::damage_any(chance, &mut fields);
         tally.compare("many states, damaged", &RemaindersInput { file: fields.bytes(), asked });
     }
-    let file = models::heaviest(chance).bytes();
+    let file = models::heaviest(chance, 2).bytes();
     let last = models::limits(&file);
     tally.compare("the last of all", &RemaindersInput { file: file.clone(), asked: last });
     for _ in 0..4 {
         let asked = models::ask(chance, last);
         tally.compare("the heaviest", &RemaindersInput { file: file.clone(), asked });
+    }
+}
+
+/// Moves for many states: all numbers of states from 8 up, every R among them, whole, with a byte too few, and damaged.
+fn moves_large<const TO: u8>(tally: &mut Tally, chance: &mut Chance) {
+    for states in 8..=64 {
+        let whole = models::whole_move::<TO>(chance, states, states % 8 + 1);
+        tally.compare("many states", &whole);
+        tally.compare("many states, a byte too few", &MoveInput::<TO> { out: whole.out - 1, ..whole });
+        let mut fields = models::movable::<TO>(chance, states, states % 8 + 1);
+        models::damage_any(chance, &mut fields);
+        tally.compare("many states, damaged", &MoveInput::<TO> { file: fields.bytes(), out: 16_653 });
     }
 }
 
@@ -444,7 +720,7 @@ fn up_to_own_time(file: &[u8]) -> SeriesInput {
     times.retain(|&time| time > 0);
     times.sort();
     times.dedup();
-    SeriesInput { file: file.to_vec(), times, levels: 4, cells: 4 * 512 }
+    SeriesInput { file: file.to_vec(), times, levels: 4, cells: 4 * 520 }
 }
 
 /// The first state, n and r of a file, and the last of each, or 0 where it is stopped.
@@ -477,7 +753,7 @@ fn compare_calculate(tally: &mut Tally, chance: &mut Chance, plan: &Plan) {
     let seed = plan.seed;
     papers(tally);
     for (name, file) in &plan.files {
-        tally.compare(name, &Input { file: file.clone(), cells: 512 });
+        tally.compare(name, &Input { file: file.clone(), cells: 520 });
     }
     sweeps(tally, chance);
     large(tally, chance);
@@ -486,11 +762,11 @@ fn compare_calculate(tally: &mut Tally, chance: &mut Chance, plan: &Plan) {
         tally.compare(&format!("seed {seed}, small {k}"), &input);
     }
     for k in 0..8 {
-        let input = Input { file: models::heaviest(chance).bytes(), cells: 512 };
+        let input = Input { file: models::heaviest(chance, 1 + k % 2).bytes(), cells: 520 };
         tally.compare(&format!("seed {seed}, heavy {k}"), &input);
     }
     for k in 0..400 {
-        let input = Input { file: models::half_tick(chance).bytes(), cells: 16 };
+        let input = Input { file: models::half_tick(chance).bytes(), cells: 24 };
         tally.compare(&format!("seed {seed}, half tick {k}"), &input);
     }
 }
@@ -509,7 +785,7 @@ fn compare_series(tally: &mut Tally, chance: &mut Chance, plan: &Plan) {
     }
     for k in 0..400 {
         let file = models::half_tick(chance).bytes();
-        let input = SeriesInput { file, times: vec![1, 2, 3], levels: 3, cells: 48 };
+        let input = SeriesInput { file, times: vec![1, 2, 3], levels: 3, cells: 72 };
         tally.compare(&format!("seed {seed}, half tick first {k}"), &input);
     }
 }
@@ -530,6 +806,31 @@ fn compare_remainders(tally: &mut Tally, chance: &mut Chance, plan: &Plan) {
     }
 }
 
+fn compare_moves<const TO: u8>(tally: &mut Tally, chance: &mut Chance, plan: &Plan) {
+    let seed = plan.seed;
+    for (name, file) in &plan.files {
+        tally.compare(name, &MoveInput::<TO> { file: file.clone(), out: 16_653 });
+    }
+    moves_large::<TO>(tally, chance);
+    for k in 0..plan.count {
+        let input = models::moves::<TO>(chance, k);
+        tally.compare(&format!("seed {seed}, move {k}"), &input);
+    }
+}
+
+fn compare_to_version_2(tally: &mut Tally, chance: &mut Chance, plan: &Plan) {
+    to_version_2_papers(tally);
+    move_sweeps::<2>(tally, chance, [&A, &B]);
+    compare_moves::<2>(tally, chance, plan);
+}
+
+fn compare_to_version_1(tally: &mut Tally, chance: &mut Chance, plan: &Plan) {
+    to_version_1_papers(tally);
+    move_sweeps::<1>(tally, chance, [&A2, &with_start(1_000_000, 0)]);
+    starts(tally, chance, |fields| MoveInput::<1> { file: fields.bytes(), out: 16_653 });
+    compare_moves::<1>(tally, chance, plan);
+}
+
 fn main() {
     let mut plan = Plan { seed: 1869, count: 20_000, files: vec![] };
     let mut tally = Tally { save: PathBuf::from("."), inputs: 0, ends: BTreeMap::new() };
@@ -546,19 +847,17 @@ fn main() {
 
     let mut chance = Chance::new(plan.seed);
     compare_calculate(&mut tally, &mut chance, &plan);
-    let alone = tally.inputs;
     compare_series(&mut tally, &mut chance, &plan);
-    let lists = tally.inputs - alone;
     compare_remainders(&mut tally, &mut chance, &plan);
-    let remainders = tally.inputs - alone - lists;
+    compare_to_version_2(&mut tally, &mut chance, &plan);
+    compare_to_version_1(&mut tally, &mut chance, &plan);
 
     tally.print::<Input>(plan.seed);
     tally.print::<SeriesInput>(plan.seed);
     tally.print::<RemaindersInput>(plan.seed);
-    let [inputs, lists, remainders] = [tally.inputs, lists, remainders].map(grouped);
-    println!(
-        "rust comparison: {inputs} inputs, {lists} of them with a list of times and {remainders} for remainders, all equal"
-    );
+    tally.print::<MoveInput<2>>(plan.seed);
+    tally.print::<MoveInput<1>>(plan.seed);
+    println!("rust comparison: {} inputs of five calls, all equal", grouped(tally.inputs));
 }
 
 fn usage(word: &str) -> ! {

@@ -1,5 +1,5 @@
-//! Inputs from a seed: model files, whole and damaged, each with a number of answer cells; lists of times for them; and
-//! states, n and r.
+//! Inputs from a seed: model files of both versions, whole and damaged, each with a number of answer cells; lists of times
+//! for them; states, n and r; and numbers of bytes for moved files.
 
 use crate::independent;
 use std::collections::BTreeSet;
@@ -52,6 +52,8 @@ pub struct Fields {
     pub highest: u8,
     pub tolerance: u32,
     pub time: u32,
+    /// M starting weights in version 2, none in version 1.
+    pub start: Vec<u32>,
     pub rewards: Vec<u32>,
     /// M × (M − 1) rates, row by row.
     pub rates: Vec<u32>,
@@ -62,11 +64,23 @@ impl Fields {
         let mut file = vec![0, 0, self.version, self.states, self.highest];
         file.extend(self.tolerance.to_be_bytes());
         file.extend(self.time.to_be_bytes());
-        for word in self.rewards.iter().chain(&self.rates) {
+        for word in self.start.iter().chain(&self.rewards).chain(&self.rates) {
             file.extend(word.to_be_bytes());
         }
         relength(&mut file);
         file
+    }
+
+    /// The cells that one time takes.
+    pub fn block(&self) -> usize {
+        let figures = usize::from(self.states) + usize::from(self.version == 2);
+        figures * usize::from(self.highest)
+    }
+
+    /// The bytes that a file with so many states has in a version.
+    fn length_in(&self, version: u8) -> usize {
+        let states = usize::from(self.states);
+        13 + 4 * states * states + if version == 2 { 4 * states } else { 0 }
     }
 
     /// The rates of row i.
@@ -119,8 +133,88 @@ pub struct RemaindersInput {
     pub asked: [u64; 3],
 }
 
+/// One input of a call that moves a file to version TO: how many bytes are lent for the moved file.
+pub struct MoveInput<const TO: u8> {
+    pub file: Vec<u8>,
+    pub out: usize,
+}
+
+impl<const TO: u8> MoveInput<TO> {
+    /// The version that is moved.
+    pub const FROM: u8 = 3 - TO;
+}
+
+/// The sum of the starting weights.
+const MILLION: u64 = 1_000_000;
+/// The most that a starting weight can be.
+const MOST: u64 = u32::MAX as u64;
+
+pub fn either_version(chance: &mut Chance) -> u8 {
+    chance.of(&[1, 2])
+}
+
+/// `total` shared out among the states, or as much of it as they can hold: all on one and, where that is full, on those
+/// after it; evenly; or anyhow, with zeros or without.
+fn share_out(chance: &mut Chance, total: u64, states: u8) -> Vec<u32> {
+    let count = u64::from(states);
+    let mut shares = vec![0; usize::from(states)];
+    let mut left = total;
+    let kind = chance.between(0, 6);
+    for share in &mut shares {
+        *share = match kind {
+            0 | 1 => 0,
+            2 => total / count,
+            3 => chance.between(0, left),
+            4 => chance.between(0, 2 * total / count).min(left),
+            _ => chance.between(0, 4 * total / count).min(left) * chance.between(0, 1),
+        }
+        .min(MOST);
+        left -= *share;
+    }
+    let any = chance.index(shares.len());
+    let first = chance.of(&[0, shares.len() - 1, any]);
+    shares.rotate_left(first);
+    for share in &mut shares {
+        let part = left.min(MOST - *share);
+        *share += part;
+        left -= part;
+    }
+    shares.rotate_right(first);
+    shares.into_iter().map(|share| share as u32).collect()
+}
+
+/// Starting weights for a version: those of version 2 sum to 1,000,000.
+fn start(chance: &mut Chance, version: u8, states: u8) -> Vec<u32> {
+    if version == 2 { share_out(chance, MILLION, states) } else { vec![] }
+}
+
+/// All weight on one state, counted from 0.
+pub fn start_on(state: usize, states: usize) -> Vec<u32> {
+    let mut start = vec![0; states];
+    start[state] = MILLION as u32;
+    start
+}
+
+/// Sums that are not 1,000,000, up to what so many weights can reach: about it, past 32 bits, and those whose low bits
+/// alone are 1,000,000.
+pub fn wrong_sums(states: u8) -> Vec<u64> {
+    let most = u64::from(states) * MOST;
+    let mut sums = vec![0, 1, MILLION - 1, MILLION + 1, 2 * MILLION, MOST, MOST + 1, most];
+    sums.extend([8, 16, 24, 31].map(|bits| MILLION + (1 << bits)));
+    sums.extend((1..u64::from(states)).flat_map(|k| [MILLION - 1, MILLION, MILLION + 1].map(|low| (k << 32) + low)));
+    sums.retain(|&sum| sum <= most);
+    sums
+}
+
+/// Starting weights that sum to `total`.
+pub fn start_of(chance: &mut Chance, total: u64, states: u8) -> Vec<u32> {
+    let start = share_out(chance, total, states);
+    assert_eq!(start.iter().map(|&weight| u64::from(weight)).sum::<u64>(), total);
+    start
+}
+
 /// A model that is accepted. Row sums reach up to `exit` and the time is such that E × T is at most 256,000,000.
-pub fn accepted(chance: &mut Chance, states: u8, highest: u8) -> Fields {
+pub fn accepted(chance: &mut Chance, version: u8, states: u8, highest: u8) -> Fields {
     let width = usize::from(states) - 1;
     // E and T: X over its whole range, borders often
     let exit = match chance.between(0, 9) {
@@ -139,7 +233,7 @@ pub fn accepted(chance: &mut Chance, states: u8, highest: u8) -> Fields {
         _ => chance.scaled(1, most_time),
     };
     let mut fields = Fields {
-        version: 1,
+        version,
         states,
         highest,
         tolerance: match chance.between(0, 5) {
@@ -148,6 +242,7 @@ pub fn accepted(chance: &mut Chance, states: u8, highest: u8) -> Fields {
             _ => chance.scaled(1, 100_000_000) as u32,
         },
         time: time as u32,
+        start: start(chance, version, states),
         rewards: (0..states).map(|_| reward(chance)).collect(),
         rates: vec![0; usize::from(states) * width],
     };
@@ -188,9 +283,9 @@ fn reward(chance: &mut Chance) -> u32 {
     }
 }
 
-/// A number of cells for a file of `states` and `highest`: about M × R, often at the border of row 13.
-pub fn cells(chance: &mut Chance, states: u8, highest: u8) -> usize {
-    about(chance, usize::from(states) * usize::from(highest), 512)
+/// A number of cells for a file: about its block, often at the border of row 13.
+pub fn cells(chance: &mut Chance, fields: &Fields) -> usize {
+    about(chance, fields.block(), 520)
 }
 
 /// A number about `needed`, often at the border where it is too low. `most` is what is enough for every input.
@@ -206,15 +301,32 @@ fn about(chance: &mut Chance, needed: usize, most: usize) -> usize {
     }
 }
 
-/// Makes row k of the table hold, where it can, or puts a number on the border that it lets pass. With two damages
+/// A row of the tables for `damage`.
+fn any_row(chance: &mut Chance) -> u8 {
+    chance.of(&[3, 4, 5, 6, 7, 8, 9, 10, 11, 12, 16, 17])
+}
+
+/// Makes some row hold.
+pub fn damage_any(chance: &mut Chance, fields: &mut Fields) {
+    let row = any_row(chance);
+    damage(chance, fields, row);
+}
+
+/// Makes a row of the tables hold, where it can, or puts a number on the border that it lets pass. With two damages
 /// several rows hold, and the first must be told.
-pub fn damage(chance: &mut Chance, fields: &mut Fields, row: u64) {
+fn damage(chance: &mut Chance, fields: &mut Fields, row: u8) {
     let i = chance.index(usize::from(fields.states.clamp(1, 64)));
     match row {
-        3 => fields.version = chance.of(&[0, 2, 9, 255, chance_byte(fields)]),
+        3 => fields.version = chance.of(&[0, 3, 9, 255, chance_byte(fields)]),
         4 => fields.states = chance.of(&[0, 65, 128, 255]),
         5 => fields.highest = chance.of(&[0, 9, 128, 255]),
-        6 => fields.states = chance.of(&[1, 2, 3, 63, 64]),
+        // another number of states, the other version, or its length
+        6 => match chance.between(0, 3) {
+            0 => fields.version = 3 - fields.version.clamp(1, 2),
+            1 if fields.start.is_empty() => fields.start = start(chance, 2, fields.states.max(1)),
+            1 => fields.start.clear(),
+            _ => fields.states = chance.of(&[1, 2, 3, 63, 64]),
+        },
         7 => fields.tolerance = chance.of(&[0, 100_000_000, 100_000_001, u32::MAX]),
         8 => fields.time = 0,
         9 => {
@@ -240,17 +352,31 @@ pub fn damage(chance: &mut Chance, fields: &mut Fields, row: u64) {
             let border = 256_000_000 / exit;
             fields.time = chance.of(&[border, border + 1, u64::from(u32::MAX)]).min(u64::from(u32::MAX)) as u32;
         }
+        16 if !fields.start.is_empty() => {
+            let near = vec![MILLION - 1, MILLION + 1];
+            let sums = if chance.one_in(2) { near } else { wrong_sums(fields.states) };
+            let total = chance.of(&sums);
+            fields.start = start_of(chance, total, fields.states);
+        }
+        // some of state 1's weight, or all, goes to another state
+        17 if fields.start.len() > 1 => {
+            let part = chance.of(&[fields.start[0].min(1), fields.start[0]]);
+            let others = &mut fields.start[1..];
+            let other = chance.index(others.len());
+            others[other] += part;
+            fields.start[0] -= part;
+        }
         _ => {}
     }
 }
 
-/// A version that is not 1 and depends on the file.
+/// A version that is not 1 or 2 and depends on the file.
 fn chance_byte(fields: &Fields) -> u8 {
-    (fields.time as u8).max(2)
+    (fields.time as u8).max(3)
 }
 
 /// A model of few states that is accepted.
-fn few_states(chance: &mut Chance) -> Fields {
+fn few_states(chance: &mut Chance, version: u8) -> Fields {
     let states = match chance.between(0, 9) {
         0 => 1,
         1..=6 => chance.between(2, 4) as u8,
@@ -258,7 +384,7 @@ fn few_states(chance: &mut Chance) -> Fields {
         _ => chance.between(8, 12) as u8,
     };
     let highest = chance.between(1, 8) as u8;
-    accepted(chance, states, highest)
+    accepted(chance, version, states, highest)
 }
 
 /// How a file is spoiled.
@@ -286,12 +412,11 @@ impl Spoiling {
         match self {
             Spoiling::Not => fields.bytes(),
             Spoiling::OneDamage => {
-                let row = chance.between(3, 12);
-                damage(chance, &mut fields, row);
+                damage_any(chance, &mut fields);
                 fields.bytes()
             }
             Spoiling::TwoDamages => {
-                let (row, other) = (chance.between(3, 12), chance.between(3, 12));
+                let (row, other) = (any_row(chance), any_row(chance));
                 // the states last: the other damages count on them
                 damage(chance, &mut fields, row.max(other));
                 damage(chance, &mut fields, row.min(other));
@@ -335,8 +460,9 @@ impl Spoiling {
 
 /// A small input: a whole file, a damaged one, or bytes that are no file. `k` picks the kind in turn.
 pub fn small(chance: &mut Chance, k: usize) -> Input {
-    let fields = few_states(chance);
-    let cells = cells(chance, fields.states, fields.highest);
+    let version = either_version(chance);
+    let fields = few_states(chance, version);
+    let cells = cells(chance, &fields);
     let spoiling = Spoiling::turn(k);
     let file = spoiling.bytes(chance, fields);
     Input { file, cells: if spoiling == Spoiling::Random { chance.index(600) } else { cells } }
@@ -393,8 +519,9 @@ fn damage_times(chance: &mut Chance, times: &mut Vec<u32>, latest: u32) {
 /// A file with a list of times. `k` picks in turn how the file is spoiled. A file may also have an own time that row 12
 /// would stop, and a list may be damaged, by one row or by two.
 pub fn series(chance: &mut Chance, k: usize) -> SeriesInput {
-    let mut fields = few_states(chance);
-    let block = usize::from(fields.states) * usize::from(fields.highest);
+    let version = either_version(chance);
+    let mut fields = few_states(chance, version);
+    let block = fields.block();
     let latest = (256_000_000 / fields.largest_row_sum().max(1)) as u32;
     let count = if chance.one_in(4) { 8 } else { chance.between(1, 8) as usize };
     let mut times = rising(chance, count, latest);
@@ -410,7 +537,7 @@ pub fn series(chance: &mut Chance, k: usize) -> SeriesInput {
         cells: match chance.between(0, 9) {
             0 => block,
             1 => needed.saturating_sub(block),
-            2..=5 => about(chance, needed, 8 * 512),
+            2..=5 => about(chance, needed, 8 * 520),
             _ => needed,
         },
         times,
@@ -418,20 +545,16 @@ pub fn series(chance: &mut Chance, k: usize) -> SeriesInput {
     }
 }
 
-/// A whole file of `states` and `highest` with a list of `count` times, and as many levels and cells as it takes.
-pub fn whole_series(chance: &mut Chance, states: u8, highest: u8, count: usize) -> SeriesInput {
-    let fields = accepted(chance, states, highest);
+/// A whole file of `states` with a list of `count` times, and as many levels and cells as it takes.
+pub fn whole_series(chance: &mut Chance, version: u8, states: u8, count: usize) -> SeriesInput {
+    let highest = chance.between(1, 8) as u8;
+    let fields = accepted(chance, version, states, highest);
     let latest = (256_000_000 / fields.largest_row_sum().max(1)) as u32;
     let times = rising(chance, count, latest);
-    SeriesInput {
-        file: fields.bytes(),
-        times,
-        levels: count,
-        cells: count * usize::from(states) * usize::from(highest),
-    }
+    SeriesInput { file: fields.bytes(), times, levels: count, cells: count * fields.block() }
 }
 
-/// M, N and R of a file that no row from 1 to 12 stops: what state, n and r may be at most.
+/// M, N and R of a file that no row up to 12 stops: what state, n and r may be at most.
 pub fn limits(file: &[u8]) -> [u64; 3] {
     independent::sizes(file).expect("an accepted file").limits
 }
@@ -476,9 +599,37 @@ pub fn ask(chance: &mut Chance, limits: [u64; 3]) -> [u64; 3] {
 
 /// A file with a state, n and r that are drawn for the whole file; `k` picks in turn how it is spoiled then.
 pub fn remainders(chance: &mut Chance, k: usize) -> RemaindersInput {
-    let fields = few_states(chance);
+    let version = either_version(chance);
+    let fields = few_states(chance, version);
     let asked = ask(chance, limits(&fields.bytes()));
     RemaindersInput { file: Spoiling::turn(k).bytes(chance, fields), asked }
+}
+
+/// A model of `states` that can be moved to version TO.
+pub fn movable<const TO: u8>(chance: &mut Chance, states: u8, highest: u8) -> Fields {
+    let mut fields = accepted(chance, MoveInput::<TO>::FROM, states, highest);
+    if TO == 1 {
+        fields.start = start_on(0, usize::from(states));
+    }
+    fields
+}
+
+/// A file with a number of bytes for the moved file, often at the border of row 13. `k` picks in turn how the file is
+/// spoiled. Most files can be moved to version TO; some are of that version, or have weight on other states.
+pub fn moves<const TO: u8>(chance: &mut Chance, k: usize) -> MoveInput<TO> {
+    let version = if chance.one_in(10) { TO } else { MoveInput::<TO>::FROM };
+    let mut fields = few_states(chance, version);
+    if version == 2 && !chance.one_in(5) {
+        fields.start = start_on(0, usize::from(fields.states));
+    }
+    let out = about(chance, fields.length_in(TO), 16_653);
+    MoveInput { file: Spoiling::turn(k).bytes(chance, fields), out }
+}
+
+/// A whole file of `states` with as many bytes as the moved one takes.
+pub fn whole_move<const TO: u8>(chance: &mut Chance, states: u8, highest: u8) -> MoveInput<TO> {
+    let fields = movable::<TO>(chance, states, highest);
+    MoveInput { file: fields.bytes(), out: fields.length_in(TO) }
 }
 
 /// Two states and N = 1: of 1,000 drawn pairs of rewards the one with which the last division of state 1's first moment
@@ -503,26 +654,29 @@ pub fn half_tick(chance: &mut Chance) -> Fields {
         if chance.one_in(2) { [largest, other] } else { [other, largest] }
     });
     let rewards = drawn.min_by_key(off_half).expect("1,000 pairs").map(|f| f as u32).to_vec();
+    let version = either_version(chance);
     Fields {
-        version: 1,
+        version,
         states: 2,
         highest: chance.between(1, 8) as u8,
         tolerance: 100_000_000,
         time: 1,
+        start: start(chance, version, 2),
         rewards,
         rates: vec![x as u32, chance.between(0, x) as u32],
     }
 }
 
 /// The longest calculation: 64 states, R = 8, q = 256, tolerance 1, dense random rates.
-pub fn heaviest(chance: &mut Chance) -> Fields {
+pub fn heaviest(chance: &mut Chance, version: u8) -> Fields {
     let states = 64;
     let mut fields = Fields {
-        version: 1,
+        version,
         states,
         highest: 8,
         tolerance: 1,
         time: 64,
+        start: start(chance, version, states),
         rewards: (0..states).map(|_| chance.between(0, 1_000_000) as u32).collect(),
         rates: (0..64 * 63).map(|_| chance.between(1, 63_000) as u32).collect(),
     };
