@@ -37,7 +37,7 @@ fn rests_at(sizes: Sizes, chain: &[u32], rewards: &[u64; 64], n: u64, r: usize, 
 
 // The remainders of an accepted file, for state, n and r within their limits. What the file states is read into arrays.
 fn rests_of(file: &[u8], sums: &[u64; 64], sizes: Sizes, state: u64, n: u64, r: u64) -> Rests
-    requires { ⌜ AcceptedModel (now file) × Inside (modelOf (now file)) state n r ⌝ }
+    requires { ⌜ AcceptedModel 1 2 (now file) × Inside (modelOf (now file)) state n r ⌝ }
     requires { ⌜ (now sums ≡ padded (modelOf (now file) .states) (rowSum (modelOf (now file)))) × (sizes ≡ sizesOf (modelOf (now file))) ⌝ }
     ensures { λ x. ⌜ x ≡ restsAt (chainOf (modelOf (now (file .entry)))) n r (state - 1) ⌝ }
 {
@@ -49,7 +49,7 @@ fn rests_of(file: &[u8], sums: &[u64; 64], sizes: Sizes, state: u64, n: u64, r: 
 
 // N, the level of an accepted file.
 fn level_of(file: &[u8], rate: u64) -> u64
-    requires { ⌜ AcceptedModel (now file) × (rate ≡ uniformRate (modelOf (now file))) ⌝ }
+    requires { ⌜ AcceptedModel 1 2 (now file) × (rate ≡ uniformRate (modelOf (now file))) ⌝ }
     ensures { λ n. ⌜ n ≡ modelLevel (modelOf (now (file .entry))) ⌝ }
 {
     let x = reader::jump_millionths(rate, reader::time(file));
@@ -74,7 +74,7 @@ fn any_outside(sizes: Sizes, level: u64, state: u64, n: u64, r: u64) -> bool
 
 // The remainders of an accepted file, or nothing.
 fn of_accepted(file: &[u8], state: u64, n: u64, r: u64) -> Remainders
-    requires { ⌜ AcceptedModel (now file) ⌝ }
+    requires { ⌜ AcceptedModel 1 2 (now file) ⌝ }
     ensures { λ a. ⌜ remaindersAnswer a ≡ accepted (restsOf (modelOf (now (file .entry))) state n r) ⌝ }
 {
     let sums = reader::row_sums(file);
@@ -86,14 +86,14 @@ fn of_accepted(file: &[u8], state: u64, n: u64, r: u64) -> Remainders
     Remainders::Given(rests_of(file, &sums, sizes, state, n, r))
 }
 
-// The call: the first of rows 1 to 12 that holds, before all else; nothing where the state, counted from 1, is outside 1 to M,
+// The call: the first of rows 1 to 12 and 16 that holds, before all else; nothing where the state, counted from 1, is outside 1 to M,
 // n outside 1 to N or r outside 1 to R; or what the three divisions of U(n,r) at the state leave. Their quotients are those that
 // the vectors hold.
 pub fn remainders(file: &[u8], state: u64, n: u64, r: u64) -> Remainders
     ensures answer { λ a. ⌜ remaindersAnswer a ≡ remaindersOf (now (file .entry)) state n r ⌝ }
     ensures worked { λ a. ⌜ WorkedOut (remaindersAnswer a) (now (file .entry)) state n r ⌝ }
 {
-    let judgement = refusals::judge_file(file);
+    let judgement = refusals::judge_file(file, 1, 2);
     match judgement {
         Judgement::Refused(k) => Remainders::Refused(k),
         Judgement::Accepted => of_accepted(file, state, n, r),

@@ -10,7 +10,7 @@ use Rattle.remainders.proofs.remainders.Tie as tie
 
 of-accepted-requires : tie.Need-of-accepted-requires
 of-accepted-requires c κs =
-    accepted-model (c .before .before .before .before .args .file .now) (sym (c .before .before .judge-file .ensures) ∙ ap verdict (c .enum-told .given .1))
+    accepted-model 1 2 (c .before .before .before .before .args .file .now) (sym (c .before .before .judge-file .ensures) ∙ ap verdict (c .enum-told .given .1))
 
 returns : tie.Need-returns
 returns c =
