@@ -7,8 +7,8 @@ use native.Mathlib.Numerals.{add-one}
 use native.Mathlib.Omega.{arith}
 use lib.ListN.{length, set, drop, length-append}
 use lib.Seq.{sets, sets-eq, length-sets}
-use Rattle.definitions.specs.Sheet.{written}
-use Rattle.sheet.specs.Printed.{Printed}
+use Rattle.definitions.specs.Written.{written}
+use Rattle.writing.specs.Printed.{Printed}
 
 -- new is old with the text, of at most so many bytes, stored byte by byte from the place at on, and next is the place after it
 pub record Puts (text : List ℕ) (most at : ℕ) (old new : List ℕ) (next : ℕ) : Type 0 where

@@ -1,4 +1,4 @@
--- `sheet::put_word` meets its contract: after i turns the first i bytes stand there. Assumes nothing.
+-- `writing::put_word` meets its contract: after i turns the first i bytes stand there. Assumes nothing.
 use mathlib.Core.Path.{_≡_, refl}
 use Prim.Native.Nat.{_-_, _≤_}
 use native.Mathlib.Numerals.{add-one}
@@ -7,9 +7,9 @@ use denote.Ref.{now}
 use lib.ListN.{length, take}
 use lib.Seq.{take-suc, take-length}
 use borrow.Author.Needs.{needs}
-use Rattle.sheet.specs.Puts.{Puts, nothing, then, wider}
-use Rattle.sheet.proofs.put_word.Statement.{statement}
-use Rattle.sheet.proofs.put_word.Tie as tie
+use Rattle.writing.specs.Puts.{Puts, nothing, then, wider}
+use Rattle.writing.proofs.put_word.Statement.{statement}
+use Rattle.writing.proofs.put_word.Tie as tie
 
 abbrev Inv-loop : tie.InvT-loop
 Inv-loop out₀ at word to₀ i₀ out to i = Puts (take i word) i at out₀ out to × (i ≤ length word) × (length out ≡ length out₀)
