@@ -16,9 +16,10 @@ pub record Puts (text : List ℕ) (most at : ℕ) (old new : List ℕ) (next : �
   pub within : next ≤ at + most
   pub bytes : new ≡ sets old at text
 
--- no text, where a run of texts begins
-pub nothing : {at : ℕ} {old : List ℕ} → Puts [] 0 at old old at
-nothing = record { after = omega arith; within = omega arith; bytes = refl }
+-- no text yet, where a run of texts begins
+pub nothing : {text : List ℕ} {most at : ℕ} {old : List ℕ} → length text ≡ 0 → Puts text most at old old at
+nothing {text = []} none = record { after = omega arith; within = omega arith; bytes = refl }
+nothing {text = b ∷ rest} none = absurd (omega (arith, none))
 
 sets-append : (t u : List ℕ) (old : List ℕ) (at : ℕ) → sets (sets old at t) (at + length t) u ≡ sets old at (t ++ u)
 sets-append [] u old at = rw add-zero

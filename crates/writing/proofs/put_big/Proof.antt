@@ -24,7 +24,7 @@ put-big-spec =
     (tie.spec
     Inv-loop
     μ-loop
-    (λ c. (nothing, omega arith, refl))
+    (λ c. (nothing (omega arith), omega arith, refl))
     (λ c. search needs)
     (λ c. search needs)
     (λ c κs. omega arith)

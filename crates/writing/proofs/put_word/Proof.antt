@@ -23,7 +23,7 @@ put-word-spec =
     (tie.spec
     Inv-loop
     μ-loop
-    (λ c. (nothing, omega arith, refl))
+    (λ c. (nothing (omega arith), omega arith, refl))
     (λ c. search needs)
     (λ c κs. search needs)
     (λ c. search needs)

@@ -21,7 +21,7 @@ put-zeros-spec =
     (tie.spec
     Inv-loop
     μ-loop
-    (λ c. (nothing, omega arith, refl))
+    (λ c. (nothing (omega arith), omega arith, refl))
     (λ c κs. omega arith)
     (λ c. search needs)
     (λ c. omega arith)
