@@ -1,3 +1,2 @@
-pub mod Printed
-pub mod Puts
+pub mod Printable
 pub mod TextLaws

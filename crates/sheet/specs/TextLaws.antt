@@ -1,19 +1,19 @@
 -- Digits, and how long the texts of the sheet are. Assumes nothing.
 use mathlib.Core.Path.{_≡_, refl, ap}
 use mathlib.Core.Bool.{Bool, true, false}
-use mathlib.Core.List.{List, _∷_, append-assoc}
+use mathlib.Core.List.{List, [], _∷_, append-assoc}
 use Prim.Native.Nat.{ℕ, zero, suc, _+_, _-_, _*_, _/_, _%_, _^_, _≤_, _<_}
-use native.Mathlib.Nat.{pow-le-pow-right, one-le-pow, mul-le-mul-right}
+use native.Mathlib.Nat.{pow-le-pow-right, one-le-pow, mul-le-mul}
 use native.Mathlib.Numerals.{add-one, sub-one}
-use native.Mathlib.Decide.{decLe}
+use native.Mathlib.Decide.{decLe, decLt}
 use native.Mathlib.Omega.{arith}
 use lib.Dec.{ltb}
 use lib.ListN.{length, getD}
 use borrow.Author.Tests.{lt-ltb, le-ltb}
 use Rattle.definitions.specs.Sums.{pick}
-use Rattle.definitions.specs.Sheet.{digit, digits, places, momentLine}
-use Rattle.laws.specs.MomentLaws.{row-of-cell, state-of-cell, count-max}
-use Rattle.sheet.specs.Printed.{line, lineWidth, Shape}
+use Rattle.definitions.specs.Sheet.{digit, digits, places, decimal, label, figureLine}
+use Rattle.laws.specs.Rounding.{remainder-below}
+use Rattle.sheet.specs.Printable.{line, lineWidth, Shape}
 
 pub power-positive : (p : ℕ) → 0 < 10 ^ p
 power-positive p = one-le-pow p 10 (omega arith)
@@ -63,30 +63,34 @@ places-short x j (suc k) high =
           rw (lt-ltb x (10 ^ suc k) below) (places-short x j k high)
     ]
 
--- at most 512 moments
-pub area : {M R : ℕ} {cells : List ℕ} → Shape M R cells → M * R ≤ 512
-area {M} {R} h = count-max M R (h .states) (h .highest)
+-- a row below M begins with its state's number, and one past it with "start"
+pub label-state : (M i : ℕ) → i < M → label M i ≡ decimal (i + 1)
+unfolding label
+label-state M i h = rw (lt-ltb i M h)
 
--- the line of cell k: its state and r, counted from 0, have two digits and one, and it has at most 20 bytes
+pub label-start : (M i : ℕ) → M ≤ i → label M i ≡ 115 ∷ 116 ∷ 97 ∷ 114 ∷ 116 ∷ []
+unfolding label
+label-start M i h = rw (le-ltb i M h)
+
+-- at most 520 lines
+pub area : {M R block : ℕ} {cells : List ℕ} → Shape M R block cells → block ≤ 520
+area {M} {R} h =
+    let most : M + 1 ≤ 65 = omega (arith, h .states) in
+    omega (arith, h .rows, mul-le-mul most (h .highest))
+
+-- the line of cell k: its r, counted from 0, has one digit, and it has at most 23 bytes
 pub record Narrow (R k : ℕ) : Type 0 where
   pub some : 0 < R
-  pub state : k / R < 64
   pub r : k % R < 8
-  pub width : lineWidth (k / R + 1) (k % R + 1) ≤ 20
+  pub width : lineWidth (k % R + 1) ≤ 23
 
-pub narrow : {M R : ℕ} {cells : List ℕ} (k : ℕ) → Shape M R cells → k < M * R → Narrow R k
+pub narrow : {M R block : ℕ} {cells : List ℕ} (k : ℕ) → Shape M R block cells → k < block → Narrow R k
 narrow {M} {R} k h l =
-    let pos : 0 < R = omega (arith, mul-le-mul-right R (h .states)) in
-    let s : k / R < 64 = omega (arith, state-of-cell k M R l, h .states) in
-    let m : k % R < 8 = omega (arith, row-of-cell k R pos, h .highest) in
-    record {
-      some = pos;
-      state = s;
-      r = m;
-      width = omega (arith, places-short (k / R + 1) 1 19 (omega arith), places-short (k % R + 1) 0 19 (omega arith));
-    }
+    let pos : 0 < R = elim (decLt 0 R) [ yes p ↦ p | no n ↦ absurd (let none : R ≡ 0 = omega (arith, n) in omega (arith, l, rw none at (h .rows))) ] in
+    let m : k % R < 8 = omega (arith, remainder-below k R pos, h .highest) in
+    record { some = pos; r = m; width = omega (arith, places-short (k % R + 1) 0 19 (omega arith)) }
 
--- a moment's line, as its texts are put
-pub line-of : (R k : ℕ) (cells : List ℕ) → momentLine R cells k ≡ line (k / R + 1) (k % R + 1) (getD cells k 0)
-unfolding momentLine
-line-of R k cells = simp append-assoc
+-- the line of a cell, as its texts are put
+pub line-of : (M R k : ℕ) (cells : List ℕ) → figureLine M R cells k ≡ line M (k / R) (k % R + 1) (getD cells k 0)
+unfolding figureLine
+line-of M R k cells = simp append-assoc

@@ -8,9 +8,10 @@ ghost use mathlib.Core.List.{[], _∷_, _++_};
 ghost use Prim.Native.Nat.{_+_, _*_, _^_, _<_, _≤_};
 ghost use lib.ListN.{length};
 ghost use Rattle.definitions.specs.Moment.{answerOf};
-ghost use Rattle.definitions.specs.Sheet.{digit, digits, places, decimal, figure, momentLines, wordLine, sheetOf};
-ghost use Rattle.sheet.specs.Puts.{Puts};
-ghost use Rattle.sheet.specs.Printed.{line, lineWidth, Shape, Printable, Printed};
+ghost use Rattle.definitions.specs.Sheet.{digit, digits, places, decimal, figure, label, figureLines, wordLine, sheetOf};
+ghost use Rattle.writing.specs.Puts.{Puts};
+ghost use Rattle.writing.specs.Printed.{Printed};
+ghost use Rattle.sheet.specs.Printable.{line, lineWidth, Shape, Printable};
 
 // The bytes of a buffer that has room for every sheet.
 pub const ROOM: usize = 16384;
@@ -55,29 +56,6 @@ fn digit_at(x: u64, p: usize) -> u8
     b'0' + (x / power(p) % 10) as u8
 }
 
-// One byte.
-fn put(out: &mut [u8], at: usize, b: u8) -> usize
-    requires { ⌜ at < length (now out) ⌝ }
-    ensures { λ r. ⌜ Puts (b ∷ []) 1 at (now (out .entry)) (now (out .exit)) r ⌝ }
-{
-    out[at] = b;
-    at + 1
-}
-
-// A run of bytes.
-fn put_word(out: &mut [u8], at: usize, word: &[u8]) -> usize
-    requires { ⌜ at + length (now word) ≤ length (now out) ⌝ }
-    ensures { λ r. ⌜ Puts (now (word .entry)) (length (now (word .entry))) at (now (out .entry)) (now (out .exit)) r ⌝ }
-{
-    let mut to = at;
-    let mut i = 0;
-    while i < word.len() {
-        to = put(out, to, word[i]);
-        i += 1;
-    }
-    to
-}
-
 // The last p decimal digits of x, the highest first.
 fn put_digits(out: &mut [u8], at: usize, x: u64, p: usize) -> usize
     requires { ⌜ (p ≤ 20) × (at + p ≤ length (now out)) ⌝ }
@@ -87,7 +65,7 @@ fn put_digits(out: &mut [u8], at: usize, x: u64, p: usize) -> usize
     let mut left = p;
     while left > 0 {
         left -= 1;
-        to = put(out, to, digit_at(x, left));
+        to = writing::put(out, to, digit_at(x, left));
     }
     to
 }
@@ -112,42 +90,60 @@ fn put_number(out: &mut [u8], at: usize, x: u64, end: u8) -> usize
     ensures { λ r. ⌜ Puts (decimal x ++ end ∷ []) (places x 19 + 1) at (now (out .entry)) (now (out .exit)) r ⌝ }
 {
     let to = put_digits(out, at, x, places_of(x));
-    put(out, to, end)
+    writing::put(out, to, end)
 }
 
-// A moment of x ticks: a digit, a point and twelve digits.
+// A figure of x ticks: a digit, a point and twelve digits.
 fn put_figure(out: &mut [u8], at: usize, x: u64) -> usize
     requires { ⌜ at + 14 ≤ length (now out) ⌝ }
     ensures { λ r. ⌜ Puts (figure x) 14 at (now (out .entry)) (now (out .exit)) r ⌝ }
 {
-    let point = put(out, at, digit_at(x, 12));
-    let decimals = put(out, point, b'.');
+    let point = writing::put(out, at, digit_at(x, 12));
+    let decimals = writing::put(out, point, b'.');
     put_digits(out, decimals, x, 12)
 }
 
-// One moment's line: its state, its r and its ticks.
-fn put_line(out: &mut [u8], at: usize, state: u64, r: u64, ticks: u64) -> usize
-    requires { ⌜ at + lineWidth state r ≤ length (now out) ⌝ }
-    ensures { λ n. ⌜ Puts (line state r ticks) (lineWidth state r) at (now (out .entry)) (now (out .exit)) n ⌝ }
+// How the lines of row i begin: the state's number, or past the last state "start". A space follows.
+fn put_label(out: &mut [u8], at: usize, states: usize, i: usize) -> usize
+    requires { ⌜ (states ≤ 64) × (at + 6 ≤ length (now out)) ⌝ }
+    ensures { λ r. ⌜ Puts (label states i ++ 32 ∷ []) 6 at (now (out .entry)) (now (out .exit)) r ⌝ }
 {
-    let second = put_number(out, at, state, b' ');
-    let third = put_number(out, second, r, b' ');
-    let end = put_figure(out, third, ticks);
-    put(out, end, b'\n')
+    if i < states {
+        put_number(out, at, (i + 1) as u64, b' ')
+    } else {
+        writing::put_word(out, at, b"start ")
+    }
 }
 
-// Every moment's line, of at most 20 bytes each.
-fn put_lines(out: &mut [u8], at: usize, states: usize, highest: usize, cells: &[u64]) -> usize
-    requires { ⌜ Shape states highest (now cells) × (at + states * highest * 20 ≤ length (now out)) ⌝ }
-    ensures { λ n. ⌜ Puts (momentLines highest (states * highest) (now (cells .entry))) (states * highest * 20) at (now (out .entry)) (now (out .exit)) n ⌝ }
+// One line, of row i: its label, its r and its ticks.
+fn put_line(out: &mut [u8], at: usize, states: usize, i: usize, r: u64, ticks: u64) -> usize
+    requires { ⌜ (states ≤ 64) × (at + lineWidth r ≤ length (now out)) ⌝ }
+    ensures { λ n. ⌜ Puts (line states i r ticks) (lineWidth r) at (now (out .entry)) (now (out .exit)) n ⌝ }
 {
-    let count = states * highest;
+    let second = put_label(out, at, states, i);
+    let third = put_number(out, second, r, b' ');
+    let end = put_figure(out, third, ticks);
+    writing::put(out, end, b'\n')
+}
+
+// The line of every cell of the block, of at most 23 bytes each.
+fn put_lines(
+    out: &mut [u8],
+    at: usize,
+    states: usize,
+    highest: usize,
+    block: usize,
+    cells: &[u64],
+) -> usize
+    requires { ⌜ Shape states highest block (now cells) × (at + block * 23 ≤ length (now out)) ⌝ }
+    ensures { λ n. ⌜ Puts (figureLines states highest block (now (cells .entry))) (block * 23) at (now (out .entry)) (now (out .exit)) n ⌝ }
+{
     let mut to = at;
     let mut k = 0;
-    while k < count {
-        let state = (k / highest + 1) as u64;
+    while k < block {
+        let i = k / highest;
         let r = (k % highest + 1) as u64;
-        to = put_line(out, to, state, r, cells[k]);
+        to = put_line(out, to, states, i, r, cells[k]);
         k += 1;
     }
     to
@@ -158,26 +154,27 @@ fn put_word_line(out: &mut [u8], word: &[u8], n: u64) -> usize
     requires { ⌜ length (now word) + (places n 19 + 1) ≤ length (now out) ⌝ }
     ensures { λ r. ⌜ Puts (wordLine (now (word .entry)) n) (length (now (word .entry)) + (places n 19 + 1)) 0 (now (out .entry)) (now (out .exit)) r ⌝ }
 {
-    let number = put_word(out, 0, word);
+    let number = writing::put_word(out, 0, word);
     put_number(out, number, n, b'\n')
 }
 
 // Writes the sheet of an outcome at the buffer's start and returns its length. Later bytes stay as
-// they were. Only a level asks something of states, highest and cells.
+// they were. Only a level asks something of states, highest, block and cells.
 pub fn write_sheet(
     outcome: Outcome,
     states: usize,
     highest: usize,
+    block: usize,
     cells: &[u64],
     out: &mut [u8; ROOM],
 ) -> usize
-    requires { ⌜ Printable (answerOf outcome) states highest (now cells) ⌝ }
-    ensures { λ n. ⌜ Printed (sheetOf (answerOf outcome) states highest (now (cells .entry))) (now (out .entry)) (now (out .exit)) n ⌝ }
+    requires { ⌜ Printable (answerOf outcome) states highest block (now cells) ⌝ }
+    ensures { λ n. ⌜ Printed (sheetOf (answerOf outcome) states highest block (now (cells .entry))) (now (out .entry)) (now (out .exit)) n ⌝ }
 {
     match outcome {
         Outcome::Level(n) => {
             let lines = put_word_line(out, b"level ", n);
-            put_lines(out, lines, states, highest, cells)
+            put_lines(out, lines, states, highest, block, cells)
         }
         Outcome::Refused(rule) => put_word_line(out, b"refused ", rule as u64),
     }

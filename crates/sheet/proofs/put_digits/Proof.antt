@@ -7,7 +7,7 @@ use lib.ListN.{length}
 use lib.Seq.{sets}
 use borrow.Author.Needs.{needs}
 use Rattle.definitions.specs.Sheet.{digits}
-use Rattle.sheet.specs.Puts.{first-byte}
+use Rattle.writing.specs.Puts.{first-byte}
 use Rattle.sheet.specs.TextLaws.{next-digit, length-digits}
 use Rattle.sheet.proofs.put_digits.Statement.{statement}
 use Rattle.sheet.proofs.put_digits.Tie as tie

@@ -2,7 +2,7 @@
 use mathlib.Core.Path.{_≡_}
 use borrow.Author.Needs.{needs}
 use Rattle.definitions.specs.Sheet.{digit, figure}
-use Rattle.sheet.specs.Puts.{then}
+use Rattle.writing.specs.Puts.{then}
 use Rattle.sheet.proofs.put_figure.Statement.{statement}
 use Rattle.sheet.proofs.put_figure.Tie as tie
 

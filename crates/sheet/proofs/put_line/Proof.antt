@@ -1,6 +1,6 @@
 -- `sheet::put_line` meets its contract: four texts, one after the other. Assumes nothing.
 use borrow.Author.Needs.{needs}
-use Rattle.sheet.specs.Puts.{then}
+use Rattle.writing.specs.Puts.{then}
 use Rattle.sheet.proofs.put_line.Statement.{statement}
 use Rattle.sheet.proofs.put_line.Tie as tie
 
@@ -15,7 +15,7 @@ put-line-spec =
     (λ c. search needs)
     (λ c.
     let end = c .before .before in
-    let moment = end .before .before .before .before in
-    let second = moment .before .before .before .before in
+    let third = end .before .before .before .before in
+    let second = third .before .before .before .before in
     let first = second .before .before .before .before in
-    then (then (then (first .put-number .ensures) (second .put-number2 .ensures)) (moment .put-figure .ensures)) (end .put .ensures)))
+    then (then (then (first .put-label .ensures) (second .put-number .ensures)) (third .put-figure .ensures)) (end .put .ensures)))

@@ -6,32 +6,30 @@ use native.Mathlib.Omega.{arith}
 use denote.Ref.{now}
 use lib.ListN.{length}
 use borrow.Author.Needs.{needs}
-use Rattle.definitions.specs.Sheet.{momentLines}
-use Rattle.sheet.specs.Puts.{Puts, nothing, then, wider}
-use Rattle.sheet.specs.TextLaws.{area, Narrow, narrow, line-of}
+use Rattle.definitions.specs.Sheet.{figureLines}
+use Rattle.writing.specs.Puts.{Puts, nothing, then, wider}
+use Rattle.sheet.specs.TextLaws.{Narrow, narrow, line-of}
 use Rattle.sheet.proofs.put_lines.Statement.{statement}
 use Rattle.sheet.proofs.put_lines.Tie as tie
 
 abbrev Inv-loop : tie.InvT-loop
-Inv-loop out₀ at states highest cells count to₀ k₀ out to k = (k ≤ count) × Puts (momentLines highest k cells) (k * 20) at out₀ out to × (length out ≡ length out₀)
+Inv-loop out₀ at states highest block cells to₀ k₀ out to k = Puts (figureLines states highest k cells) (k * 23) at out₀ out to × (k ≤ block) × (length out ≡ length out₀)
 
 abbrev μ-loop : tie.MeasureT-loop
-μ-loop out₀ at states highest cells count to₀ k₀ out to k = count - k
+μ-loop out₀ at states highest block cells to₀ k₀ out to k = block - k
 
 numbers : (c : tie.In-loop Inv-loop μ-loop) → Narrow (c .before .before .before .before .args .highest) (c .before .loop .k)
 numbers c = narrow (c .before .loop .k) (c .before .before .before .before .pre .0) (omega arith)
 
 pub put-lines-spec : {M : Type 1} → statement M
-unfolding momentLines
+unfolding figureLines
 put-lines-spec =
     tie.close
     (tie.spec
     Inv-loop
     μ-loop
-    (λ c. omega (arith, area (c .before .before .pre .0)))
-    (λ c. (omega arith, nothing, refl))
+    (λ c. (nothing (omega arith), omega arith, refl))
     (λ c. numbers c .some)
-    (λ c. omega (arith, numbers c))
     (λ c. numbers c .some)
     (λ c. omega (arith, numbers c))
     (λ c. omega arith)
@@ -44,9 +42,10 @@ put-lines-spec =
     let inside = call .before .before .before in
     let k = inside .before .loop .k in
     let args = inside .before .before .before .before .args in
-    (omega arith, rw (add-one k, line-of (args .highest) k (now (args .cells))) (wider (omega (arith, numbers inside)) (then (inside .before .loop .inv .1) (call .put-line .ensures))), omega (arith, call .put-line .kept)))
+    let text = then (inside .before .loop .inv .0) (call .put-line .ensures) in
+    (rw (add-one k, line-of (args .states) (args .highest) k (now (args .cells))) (wider (omega (arith, numbers inside)) text), omega arith, omega (arith, call .put-line .kept)))
     (λ c. search needs)
     (λ c.
-    let args = c .before .before .before .before .args in
-    let all : c .before .loop .k ≡ args .states * args .highest = omega arith in
-    rw (← all) (c .before .loop .inv .1)))
+    let loop = c .before .loop in
+    let all : loop .k ≡ c .before .before .before .before .args .block = omega arith in
+    rw (← all) (loop .inv .0)))

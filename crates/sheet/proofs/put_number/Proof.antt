@@ -2,7 +2,7 @@
 use native.Mathlib.Omega.{arith}
 use borrow.Author.Needs.{needs}
 use Rattle.definitions.specs.Sheet.{decimal}
-use Rattle.sheet.specs.Puts.{then}
+use Rattle.writing.specs.Puts.{then}
 use Rattle.sheet.specs.TextLaws.{places-limit}
 use Rattle.sheet.proofs.put_number.Statement.{statement}
 use Rattle.sheet.proofs.put_number.Tie as tie

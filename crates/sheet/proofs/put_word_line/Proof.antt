@@ -1,6 +1,6 @@
 -- `sheet::put_word_line` meets its contract: two texts, one after the other. Assumes nothing.
 use borrow.Author.Needs.{needs}
-use Rattle.sheet.specs.Puts.{then}
+use Rattle.writing.specs.Puts.{then}
 use Rattle.sheet.proofs.put_word_line.Statement.{statement}
 use Rattle.sheet.proofs.put_word_line.Tie as tie
 

@@ -3,14 +3,14 @@ use native.Mathlib.Omega.{arith}
 use denote.Ref.{now}
 use borrow.Author.Needs.{needs}
 use Rattle.definitions.specs.Sheet.{levelLine, refusedLine, sheetOf}
-use Rattle.sheet.specs.Puts.{then, printed}
-use Rattle.sheet.specs.Printed.{Shape}
+use Rattle.writing.specs.Puts.{then, printed}
+use Rattle.sheet.specs.Printable.{Shape}
 use Rattle.sheet.specs.TextLaws.{area, places-limit}
 use Rattle.sheet.proofs.write_sheet.Statement.{statement}
 use Rattle.sheet.proofs.write_sheet.Tie as tie
 
 -- what is asked of a level
-shape : (c : tie.After-outcome) → let args = c .before .before .before .args in Shape (args .states) (args .highest) (now (args .cells))
+shape : (c : tie.After-outcome) → let args = c .before .before .before .args in Shape (args .states) (args .highest) (args .block) (now (args .cells))
 shape c = rw (c .outcome .given .1) at (c .before .before .before .pre)
 
 pub write-sheet-spec : {M : Type 1} → statement M
