@@ -2,22 +2,22 @@
 use definitions::Outcome;
 use libc::STDOUT_FILENO;
 ghost use Rattle.definitions.specs.Moment.{answerOf};
-ghost use Rattle.sheet.specs.Printed.{Printable};
+ghost use Rattle.sheet.specs.Printable.{Printable};
 
-fn show(outcome: Outcome, states: usize, highest: usize, cells: &[u64])
-    requires { ⌜ Printable (answerOf outcome) states highest (now cells) ⌝ }
+fn show(outcome: Outcome, states: usize, highest: usize, block: usize, cells: &[u64])
+    requires { ⌜ Printable (answerOf outcome) states highest block (now cells) ⌝ }
 {
     let mut out = [b'#'; sheet::ROOM];
-    let n = sheet::write_sheet(outcome, states, highest, cells, &mut out);
+    let n = sheet::write_sheet(outcome, states, highest, block, cells, &mut out);
     io::write_all(STDOUT_FILENO, &out[..n]);
 }
 
-// 512 moments, each with other digits, up to just below 1.
-fn moments() -> [u64; 512] {
-    let mut cells = [0u64; 512];
+// 520 figures, each with other digits, up to just below 1.
+fn figures() -> [u64; 520] {
+    let mut cells = [0u64; 520];
     let mut k = 0;
-    while k < 512 {
-        cells[k] = (k as u64) * 1_956_947_162;
+    while k < 520 {
+        cells[k] = (k as u64) * 1_923_076_921;
         k += 1;
     }
     cells
@@ -29,17 +29,20 @@ fn main() {
         612_500_000_000,
         281_250_000_000,
         175_000_000_000,
+        390_625_000_000,
+        284_375_000_000,
     ];
-    show(Outcome::Level(3), 2, 2, &b);
+    show(Outcome::Level(3), 2, 2, 4, &b);
+    show(Outcome::Level(3), 2, 2, 6, &b);
     let one = [1_000_000_000_000];
-    show(Outcome::Level(1), 1, 1, &one);
-    show(Outcome::Refused(3), 0, 0, &one);
-    show(Outcome::Refused(12), 2, 2, &one);
-    show(Outcome::Refused(255), 2, 2, &one);
-    let all = moments();
-    show(Outcome::Level(1024), 64, 8, &all);
-    show(Outcome::Level(99), 3, 3, &all);
-    show(Outcome::Level(100), 0, 8, &all);
-    show(Outcome::Level(0), 64, 0, &all);
-    show(Outcome::Level(18446744073709551615), 1, 8, &all);
+    show(Outcome::Level(1), 1, 1, 1, &one);
+    show(Outcome::Refused(3), 0, 0, 0, &one);
+    show(Outcome::Refused(12), 2, 2, 4, &one);
+    show(Outcome::Refused(255), 2, 2, 6, &one);
+    let all = figures();
+    show(Outcome::Level(1024), 64, 8, 520, &all);
+    show(Outcome::Level(99), 3, 3, 9, &all);
+    show(Outcome::Level(100), 0, 8, 8, &all);
+    show(Outcome::Level(0), 64, 0, 0, &all);
+    show(Outcome::Level(18446744073709551615), 1, 8, 8, &all);
 }
