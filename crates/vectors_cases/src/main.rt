@@ -22,7 +22,7 @@ fn main() {
 fn vectors_of(file: &[u8], last: u64)
     requires { ⌜ last ≤ 1024 ⌝ }
 {
-    let judgement = refusals::judge(file, 512);
+    let judgement = refusals::judge(file, 520);
     match judgement {
         Judgement::Accepted => accepted_vectors(file, last),
         Judgement::Refused(_) => {
@@ -33,7 +33,7 @@ fn vectors_of(file: &[u8], last: u64)
 
 // Those of an accepted file: what it states is read into arrays.
 fn accepted_vectors(file: &[u8], last: u64)
-    requires { ⌜ AcceptedFile (now file) 512 × (last ≤ 1024) ⌝ }
+    requires { ⌜ AcceptedFile (now file) 520 × (last ≤ 1024) ⌝ }
 {
     let sums = reader::row_sums(file);
     let sizes = reader::sizes_of(file, &sums);

@@ -7,7 +7,7 @@ use lib.ListN.{length-replicate}
 use Rattle.definitions.specs.declared.Sizes.{Sizes}
 use Rattle.definitions.specs.Chain.{modelOf, uniformRate}
 use Rattle.laws.specs.ChainLaws.{square-max}
-use Rattle.vectors.specs.ModelLaws.{model-ready}
+use Rattle.vectors.specs.ModelLaws.{held-ready}
 use Rattle.vectors_cases.proofs.accepted_vectors.Statement.{statement}
 use Rattle.vectors_cases.proofs.accepted_vectors.Tie as tie
 
@@ -15,14 +15,16 @@ write-chain-requires : tie.Need-write-chain-requires
 write-chain-requires c κs =
     let start = c .before .before .before .before .before .before in
     let rate : c .before .before .sizes-of .result .rate ≡ uniformRate (modelOf (start .args .file .now)) = ap (λ (z : Sizes). z .rate) (c .before .before .sizes-of .ensures) in
-    ((start .pre .0 .framed, square-max _ 64 (start .pre .0 .framed .states-max)), (c .before .before .before .before .row-sums .ensures, (rate, omega (arith, start .pre .0 .limits .rate-max))))
+    let given = start .pre .0 .model in
+    ((given .framed, square-max _ 64 (given .framed .states-max)), (c .before .before .before .before .row-sums .ensures, (rate, omega (arith, given .limits .rate-max))))
 
 tables-requires : tie.Need-tables-requires
 tables-requires c κs =
     let sizes = c .before .before .before .before .before .before .before .sizes-of .ensures in
     let start = c .before .before .before .before .before .before .before .before .before .before .before in
-    let given = start .pre .0 in (
-      rw (sizes, c .before .before .before .before .write-chain .ensures, c .before .before .rewards-of .ensures) (model-ready _ _ (given .limits) (omega (arith, length-replicate {A = ℕ} 4096 0, square-max _ 64 (given .framed .states-max)))),
+    let given = start .pre .0 .model in
+    let m = modelOf (start .args .file .now) in (
+      held-ready m (m .time) (record { sizes = sizes; room = omega (arith, length-replicate {A = ℕ} 4096 0, square-max _ 64 (given .framed .states-max)); entries = c .before .before .before .before .write-chain .ensures; rewards = c .before .before .rewards-of .ensures }) (given .limits),
       rw sizes (given .limits .highest-max),
       omega arith,
     )
