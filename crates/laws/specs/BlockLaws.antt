@@ -16,7 +16,8 @@ pub block-end : (k count size : ℕ) → k < count → k * size + size ≤ count
 block-end k count size h = let most : (k + 1) * size ≤ count * size = mul-le-mul-right size (omega arith) in omega (arith, most)
 
 module _ {A : Type 0} where
-  firsts-further : (a n : ℕ) (f : ℕ → A) → firsts (a + n) f ≡ firsts a f ++ firsts n (λ i. f (a + i))
+  -- the first a entries, and n more
+  pub firsts-further : (a n : ℕ) (f : ℕ → A) → firsts (a + n) f ≡ firsts a f ++ firsts n (λ i. f (a + i))
   unfolding firsts
   firsts-further a zero f = rw add-zero (sym (append-nil (firsts a f)))
   firsts-further a (suc n) f = rw add-suc (ap (λ (l : List A). l ++ (f (a + n) ∷ [])) (firsts-further a n f) ∙ append-assoc (firsts a f) (firsts n (λ i. f (a + i))) (f (a + n) ∷ []))
