@@ -2,13 +2,15 @@
 use Prim.Native.Nat.{ℕ, zero, suc, _+_, _*_, _-_, _/_, _%_, _≤_, _<_, _^_}
 use native.Mathlib.Omega.{arith}
 use native.Mathlib.Nat.{pow-suc}
+use native.Mathlib.Numerals.{sub-one}
 use mathlib.Core.Path.{_≡_, refl, sym, _∙_, ap, ap₂}
 use mathlib.Core.List.{List, [], _∷_, _++_, append-assoc, append-nil}
 use lib.ListN.{length, getD, take, drop, length-append, length-drop, take-append-drop}
 use lib.Seq.{take-suc, take-add, take-all, drop-drop, getD-drop, getD-at}
 use Rattle.definitions.specs.Sums.{firsts}
 use Rattle.definitions.specs.Bytes.{big, bytesOf}
-use Rattle.definitions.specs.Fields.{numbersAt, wordsOf}
+use Rattle.definitions.specs.File.{lengthField, version, stateCount, highestMoment, toleranceField, timeField, distributions}
+use Rattle.definitions.specs.Fields.{Fields, numbersAt, wordsOf, fieldsOf, numbersOf, fileOf}
 use Rattle.laws.specs.Rounding.{quotient-unique, remainder-unique, quotient-below, quotient-remainder}
 use Rattle.laws.specs.ListLaws.{length-firsts, firsts-same}
 use Rattle.laws.specs.ByteLaws.{length-bytes}
@@ -109,3 +111,76 @@ numbers-of-words (x ∷ later) pre post at e fits =
     ∙ numbers-first (pre ++ (bytesOf 4 x ++ (wordsOf later ++ post))) at (length later)
     ∙ ap₂ (λ (n : ℕ) (l : List ℕ). n ∷ l) (big-of-bytes 4 x pre (wordsOf later ++ post) at e (fits 0))
     (ap (λ (s : List ℕ). numbersAt s (at + 4) (length later)) parted ∙ numbers-of-words later (pre ++ bytesOf 4 x) post (at + 4) place (λ i. fits (suc i)))
+
+-- a file as its fields and back again
+-- what stands from the place at on: so many bytes, and what follows them
+part-then-rest : (n at : ℕ) (s : List ℕ) → take n (drop at s) ++ drop (at + n) s ≡ drop at s
+part-then-rest n at s = ap (λ (l : List ℕ). take n (drop at s) ++ l) (sym (drop-drop n at s)) ∙ take-append-drop n (drop at s)
+
+-- bytes 2 to 4
+three-bytes : (s : List ℕ) → 5 ≤ length s → getD s 2 0 ∷ getD s 3 0 ∷ getD s 4 0 ∷ [] ≡ take 3 (drop 2 s)
+three-bytes (a ∷ b ∷ c ∷ d ∷ e ∷ later) h = refl
+three-bytes (a ∷ b ∷ c ∷ d ∷ []) h = absurd (omega arith)
+three-bytes (a ∷ b ∷ c ∷ []) h = absurd (omega arith)
+three-bytes (a ∷ b ∷ []) h = absurd (omega arith)
+three-bytes (a ∷ []) h = absurd (omega arith)
+three-bytes [] h = absurd (omega arith)
+
+-- M rewards and M rows of M − 1 rates are M × M numbers
+pub square : (n : ℕ) → 1 ≤ n → n + n * (n - 1) ≡ n * n
+square zero h = absurd (omega arith)
+square (suc k) h = rw sub-one (omega arith)
+
+-- a file whose bytes follow the length that its version and number of states ask for, and whose length field says so
+pub record Sized (s : List ℕ) : Type 0 where
+  pub states-min : 1 ≤ stateCount s
+  pub size : length s ≡ 4 * stateCount s * stateCount s + 4 * (distributions s * stateCount s) + 13
+  pub counted : lengthField s ≡ length s - 2
+
+module _ (s : List ℕ) (low : (i : ℕ) → getD s i 0 < 256) (sized : Sized s) where
+  abbrev M : ℕ
+  M = stateCount s
+
+  abbrev D : ℕ
+  D = distributions s
+
+  -- weights, rewards and rates are all numbers after the header
+  numbers-whole : numbersOf (fieldsOf s) ≡ numbersAt s 13 (D * M + (M + M * (M - 1)))
+  unfolding fieldsOf
+  numbers-whole =
+      ap (λ (k : ℕ). numbersAt s 13 (D * M) ++ (numbersAt s (13 + 4 * (D * M)) M ++ numbersAt s k (M * (M - 1)))) start
+      ∙ ap (λ (l : List ℕ). numbersAt s 13 (D * M) ++ l) (sym (numbers-further s (13 + 4 * (D * M)) M (M * (M - 1))))
+      ∙ sym (numbers-further s 13 (D * M) (M + M * (M - 1)))
+    where
+      start : 13 + 4 * (D * M) + 4 * M + 4 * (M - 1) * 0 ≡ 13 + 4 * (D * M) + 4 * M
+      start = omega arith
+
+  -- and there is nothing else
+  words-whole : wordsOf (numbersOf (fieldsOf s)) ≡ drop 13 s
+  words-whole =
+      ap wordsOf numbers-whole
+      ∙ words-of-numbers s 13 (D * M + (M + M * (M - 1))) low (omega (arith, sized .size, square M (sized .states-min)))
+      ∙ take-all (4 * (D * M + (M + M * (M - 1)))) (drop 13 s) (omega (arith, sized .size, square M (sized .states-min), length-drop 13 s))
+
+  length-whole : 4 * length (numbersOf (fieldsOf s)) + 11 ≡ lengthField s
+  length-whole = omega (arith, sized .size, sized .counted, square M (sized .states-min), ap (length {A = ℕ}) numbers-whole, length-numbers s 13 (D * M + (M + M * (M - 1))))
+
+  header : 13 ≤ length s
+  header = omega (arith, sized .size)
+
+  -- the header's bytes, and what follows them
+  header-and-rest : bytesOf 2 (lengthField s) ++ ((version s ∷ stateCount s ∷ highestMoment s ∷ []) ++ (bytesOf 4 (toleranceField s) ++ (bytesOf 4 (timeField s) ++ drop 13 s))) ≡ s
+  header-and-rest =
+      rw (bytes-of-big 2 0 s low (omega (arith, header)), bytes-of-big 4 5 s low (omega (arith, header)), bytes-of-big 4 9 s low (omega (arith, header)))
+      (ap (λ (l : List ℕ). take 2 s ++ (l ++ (take 4 (drop 5 s) ++ (take 4 (drop 9 s) ++ drop 13 s)))) (three-bytes s (omega (arith, header)))
+      ∙ ap (λ (l : List ℕ). take 2 s ++ (take 3 (drop 2 s) ++ (take 4 (drop 5 s) ++ l))) (part-then-rest 4 9 s)
+      ∙ ap (λ (l : List ℕ). take 2 s ++ (take 3 (drop 2 s) ++ l)) (part-then-rest 4 5 s)
+      ∙ ap (λ (l : List ℕ). take 2 s ++ l) (part-then-rest 3 2 s)
+      ∙ part-then-rest 2 0 s)
+
+  -- the file that holds the fields of a file is that file
+  pub file-of-fields : fileOf (fieldsOf s) ≡ s
+  unfolding fileOf fieldsOf
+  file-of-fields =
+      ap₂ (λ (n : ℕ) (l : List ℕ). bytesOf 2 n ++ ((version s ∷ stateCount s ∷ highestMoment s ∷ []) ++ (bytesOf 4 (toleranceField s) ++ (bytesOf 4 (timeField s) ++ l)))) length-whole words-whole
+      ∙ header-and-rest
