@@ -7,7 +7,8 @@ use mathlib.Core.Path.{_≡_, refl, sym, _∙_, ap, ap₂}
 use mathlib.Core.List.{List, [], _∷_, _++_, append-assoc, append-nil}
 use lib.ListN.{length, getD, take, drop, length-append, length-drop, take-append-drop}
 use lib.Seq.{take-suc, take-add, take-all, drop-drop, getD-drop, getD-at}
-use Rattle.definitions.specs.Sums.{firsts}
+use lib.Dec.{eqb}
+use Rattle.definitions.specs.Sums.{firsts, pick}
 use Rattle.definitions.specs.Bytes.{big, bytesOf}
 use Rattle.definitions.specs.File.{lengthField, version, stateCount, highestMoment, toleranceField, timeField, distributions}
 use Rattle.definitions.specs.Fields.{Fields, numbersAt, wordsOf, fieldsOf, numbersOf, fileOf}
@@ -112,7 +113,6 @@ numbers-of-words (x ∷ later) pre post at e fits =
     ∙ ap₂ (λ (n : ℕ) (l : List ℕ). n ∷ l) (big-of-bytes 4 x pre (wordsOf later ++ post) at e (fits 0))
     (ap (λ (s : List ℕ). numbersAt s (at + 4) (length later)) parted ∙ numbers-of-words later (pre ++ bytesOf 4 x) post (at + 4) place (λ i. fits (suc i)))
 
--- a file as its fields and back again
 -- what stands from the place at on: so many bytes, and what follows them
 part-then-rest : (n at : ℕ) (s : List ℕ) → take n (drop at s) ++ drop (at + n) s ≡ drop at s
 part-then-rest n at s = ap (λ (l : List ℕ). take n (drop at s) ++ l) (sym (drop-drop n at s)) ∙ take-append-drop n (drop at s)
@@ -184,3 +184,134 @@ module _ (s : List ℕ) (low : (i : ℕ) → getD s i 0 < 256) (sized : Sized s)
   file-of-fields =
       ap₂ (λ (n : ℕ) (l : List ℕ). bytesOf 2 n ++ ((version s ∷ stateCount s ∷ highestMoment s ∷ []) ++ (bytesOf 4 (toleranceField s) ++ (bytesOf 4 (timeField s) ++ l)))) length-whole words-whole
       ∙ header-and-rest
+
+-- fields that a file can hold
+pub record Fits (f : Fields) : Type 0 where
+  pub version-fits : f .version < 256
+  pub states-min : 1 ≤ f .states
+  pub states-fit : f .states < 256
+  pub highest-fits : f .highest < 256
+  pub tolerance-fits : f .tolerance < 2 ^ 32
+  pub time-fits : f .time < 2 ^ 32
+  pub weights-count : length (f .weights) ≡ pick (eqb (f .version) 2) 1 0 * f .states
+  pub rewards-count : length (f .rewards) ≡ f .states
+  pub rates-count : length (f .rates) ≡ f .states * (f .states - 1)
+  pub weights-fit : (i : ℕ) → getD (f .weights) i 0 < 2 ^ 32
+  pub rewards-fit : (i : ℕ) → getD (f .rewards) i 0 < 2 ^ 32
+  pub rates-fit : (i : ℕ) → getD (f .rates) i 0 < 2 ^ 32
+  pub length-fits : 4 * length (numbersOf f) + 11 < 2 ^ 16
+
+-- the header's 13 bytes
+headerOf : Fields → List ℕ
+headerOf f = bytesOf 2 (4 * length (numbersOf f) + 11) ++ ((f .version ∷ f .states ∷ f .highest ∷ []) ++ (bytesOf 4 (f .tolerance) ++ bytesOf 4 (f .time)))
+
+module _ (f : Fields) where
+  length-header : length (headerOf f) ≡ 13
+  unfolding headerOf bytesOf
+  length-header = refl
+
+  header-then-words : fileOf f ≡ headerOf f ++ wordsOf (numbersOf f)
+  unfolding headerOf fileOf bytesOf
+  header-then-words = refl
+
+  -- the file in its parts
+  in-four : fileOf f ≡ headerOf f ++ (wordsOf (f .weights) ++ (wordsOf (f .rewards) ++ wordsOf (f .rates)))
+  in-four =
+      header-then-words
+      ∙ ap (λ (l : List ℕ). headerOf f ++ l) (words-append (f .weights) (f .rewards ++ f .rates))
+      ∙ ap (λ (l : List ℕ). headerOf f ++ (wordsOf (f .weights) ++ l)) (words-append (f .rewards) (f .rates))
+
+  -- how long it is
+  pub length-file : length (fileOf f) ≡ 4 * length (numbersOf f) + 13
+  length-file = omega (arith, ap (length {A = ℕ}) header-then-words, length-append (headerOf f) (wordsOf (numbersOf f)), length-header, length-words (numbersOf f))
+
+  -- the fields of one byte
+  pub version-of-file : version (fileOf f) ≡ f .version
+  unfolding fileOf bytesOf
+  version-of-file = refl
+
+  pub states-of-file : stateCount (fileOf f) ≡ f .states
+  unfolding fileOf bytesOf
+  states-of-file = refl
+
+  pub highest-of-file : highestMoment (fileOf f) ≡ f .highest
+  unfolding fileOf bytesOf
+  highest-of-file = refl
+
+  distributions-of-file : distributions (fileOf f) ≡ pick (eqb (f .version) 2) 1 0
+  unfolding distributions
+  distributions-of-file = rw version-of-file
+
+  module _ (fits : Fits f) where
+    length-of-file : lengthField (fileOf f) ≡ 4 * length (numbersOf f) + 11
+    unfolding fileOf
+    length-of-file = big-of-bytes 2 (4 * length (numbersOf f) + 11) [] _ 0 refl (fits .length-fits)
+
+    tolerance-of-file : toleranceField (fileOf f) ≡ f .tolerance
+    unfolding fileOf bytesOf
+    tolerance-of-file = big-of-bytes 4 (f .tolerance) (bytesOf 2 (4 * length (numbersOf f) + 11) ++ (f .version ∷ f .states ∷ f .highest ∷ [])) _ 5 refl (fits .tolerance-fits)
+
+    time-of-file : timeField (fileOf f) ≡ f .time
+    unfolding fileOf bytesOf
+    time-of-file = big-of-bytes 4 (f .time) (bytesOf 2 (4 * length (numbersOf f) + 11) ++ ((f .version ∷ f .states ∷ f .highest ∷ []) ++ bytesOf 4 (f .tolerance))) _ 9 refl (fits .time-fits)
+
+    -- M weights for each distribution
+    weights-held : distributions (fileOf f) * stateCount (fileOf f) ≡ length (f .weights)
+    weights-held = ap₂ _*_ distributions-of-file states-of-file ∙ sym (fits .weights-count)
+
+    weights-of-file : fieldsOf (fileOf f) .weights ≡ f .weights
+    unfolding fieldsOf
+    weights-of-file =
+        ap₂ (λ (s : List ℕ) (n : ℕ). numbersAt s 13 n) in-four weights-held
+        ∙ numbers-of-words (f .weights) (headerOf f) (wordsOf (f .rewards) ++ wordsOf (f .rates)) 13 length-header (fits .weights-fit)
+
+    -- what stands before the rewards, and before the rates
+    to-rewards : List ℕ
+    to-rewards = headerOf f ++ wordsOf (f .weights)
+
+    length-to-rewards : length to-rewards ≡ 13 + 4 * length (f .weights)
+    unfolding to-rewards
+    length-to-rewards = omega (arith, length-append (headerOf f) (wordsOf (f .weights)), length-header, length-words (f .weights))
+
+    at-rewards : fileOf f ≡ to-rewards ++ (wordsOf (f .rewards) ++ wordsOf (f .rates))
+    unfolding to-rewards
+    at-rewards = in-four ∙ sym (append-assoc (headerOf f) (wordsOf (f .weights)) (wordsOf (f .rewards) ++ wordsOf (f .rates)))
+
+    at-rates : fileOf f ≡ (to-rewards ++ wordsOf (f .rewards)) ++ (wordsOf (f .rates) ++ [])
+    at-rates = at-rewards ∙ sym (append-assoc to-rewards (wordsOf (f .rewards)) (wordsOf (f .rates))) ∙ ap (λ (l : List ℕ). (to-rewards ++ wordsOf (f .rewards)) ++ l) (sym (append-nil (wordsOf (f .rates))))
+
+    rewards-of-file : fieldsOf (fileOf f) .rewards ≡ f .rewards
+    unfolding fieldsOf
+    rewards-of-file =
+        ap₂ (λ (n d : ℕ). numbersAt (fileOf f) (13 + 4 * d) n) (states-of-file ∙ sym (fits .rewards-count)) weights-held
+        ∙ ap (λ (s : List ℕ). numbersAt s (13 + 4 * length (f .weights)) (length (f .rewards))) at-rewards
+        ∙ numbers-of-words (f .rewards) to-rewards (wordsOf (f .rates)) (13 + 4 * length (f .weights)) length-to-rewards (fits .rewards-fit)
+
+    rates-of-file : fieldsOf (fileOf f) .rates ≡ f .rates
+    unfolding fieldsOf
+    rates-of-file =
+        ap (λ (k : ℕ). numbersAt (fileOf f) k (stateCount (fileOf f) * (stateCount (fileOf f) - 1))) place
+        ∙ ap₂ (λ (s : List ℕ) (n : ℕ). numbersAt s (13 + 4 * length (f .weights) + 4 * length (f .rewards)) n) at-rates (ap (λ (n : ℕ). n * (n - 1)) states-of-file ∙ sym (fits .rates-count))
+        ∙ numbers-of-words (f .rates) (to-rewards ++ wordsOf (f .rewards)) [] (13 + 4 * length (f .weights) + 4 * length (f .rewards)) before (fits .rates-fit)
+      where
+        before : length (to-rewards ++ wordsOf (f .rewards)) ≡ 13 + 4 * length (f .weights) + 4 * length (f .rewards)
+        before = omega (arith, length-append to-rewards (wordsOf (f .rewards)), length-to-rewards, length-words (f .rewards))
+
+        place : 13 + 4 * (distributions (fileOf f) * stateCount (fileOf f)) + 4 * stateCount (fileOf f) + 4 * (stateCount (fileOf f) - 1) * 0 ≡ 13 + 4 * length (f .weights) + 4 * length (f .rewards)
+        place = omega (arith, weights-held, states-of-file, fits .rewards-count)
+
+    -- the fields of the file that holds them are those fields
+    pub fields-of-file : fieldsOf (fileOf f) ≡ f
+    unfolding fieldsOf
+    fields-of-file =
+        λ i.
+        record {
+          version = version-of-file i;
+          states = states-of-file i;
+          highest = highest-of-file i;
+          tolerance = tolerance-of-file i;
+          time = time-of-file i;
+          weights = weights-of-file i;
+          rewards = rewards-of-file i;
+          rates = rates-of-file i;
+        }
