@@ -3,17 +3,18 @@ use Prim.Native.Nat.{ℕ, zero, suc, _+_, _*_, _-_, _/_, _%_, _≤_, _<_, _^_}
 use native.Mathlib.Omega.{arith}
 use native.Mathlib.Nat.{pow-suc}
 use native.Mathlib.Numerals.{sub-one}
+use native.Mathlib.Decide.{decLt}
 use mathlib.Core.Path.{_≡_, refl, sym, _∙_, ap, ap₂}
 use mathlib.Core.List.{List, [], _∷_, _++_, append-assoc, append-nil}
-use lib.ListN.{length, getD, take, drop, length-append, length-drop, take-append-drop}
+use lib.ListN.{length, getD, take, drop, length-append, length-drop, take-append-drop, List·getD-eq-default}
 use lib.Seq.{take-suc, take-add, take-all, drop-drop, getD-drop, getD-at}
 use lib.Dec.{eqb}
 use Rattle.definitions.specs.Sums.{firsts, pick}
 use Rattle.definitions.specs.Bytes.{big, bytesOf}
 use Rattle.definitions.specs.File.{lengthField, version, stateCount, highestMoment, toleranceField, timeField, distributions}
 use Rattle.definitions.specs.Fields.{Fields, numbersAt, wordsOf, fieldsOf, numbersOf, fileOf}
-use Rattle.laws.specs.Rounding.{quotient-unique, remainder-unique, quotient-below, quotient-remainder}
-use Rattle.laws.specs.ListLaws.{length-firsts, firsts-same}
+use Rattle.laws.specs.Rounding.{quotient-unique, remainder-unique, quotient-below, quotient-remainder, remainder-below}
+use Rattle.laws.specs.ListLaws.{length-firsts, getD-firsts, firsts-same}
 use Rattle.laws.specs.ByteLaws.{length-bytes}
 use Rattle.laws.specs.BlockLaws.{firsts-further}
 
@@ -112,6 +113,36 @@ numbers-of-words (x ∷ later) pre post at e fits =
     ∙ numbers-first (pre ++ (bytesOf 4 x ++ (wordsOf later ++ post))) at (length later)
     ∙ ap₂ (λ (n : ℕ) (l : List ℕ). n ∷ l) (big-of-bytes 4 x pre (wordsOf later ++ post) at e (fits 0))
     (ap (λ (s : List ℕ). numbersAt s (at + 4) (length later)) parted ∙ numbers-of-words later (pre ++ bytesOf 4 x) post (at + 4) place (λ i. fits (suc i)))
+
+-- entries that are all below k, in two lists and in both together
+below-append : (k : ℕ) (a b : List ℕ) → ((i : ℕ) → getD a i 0 < k) → ((i : ℕ) → getD b i 0 < k) → (i : ℕ) → getD (a ++ b) i 0 < k
+below-append k [] b p q i = q i
+below-append k (x ∷ a) b p q zero = p 0
+below-append k (x ∷ a) b p q (suc i) = below-append k a b (λ j. p (suc j)) q i
+
+-- the bytes of a number, and those of a list of numbers, are bytes
+pub bytes-below : (width n i : ℕ) → getD (bytesOf width n) i 0 < 256
+unfolding bytesOf
+bytes-below zero n i = omega arith
+bytes-below (suc width) n i = below-append 256 (bytesOf width (n / 256)) (n % 256 ∷ []) (bytes-below width (n / 256)) last i
+  where
+    last : (j : ℕ) → getD (n % 256 ∷ []) j 0 < 256
+    last zero = remainder-below n 256 (omega arith)
+    last (suc j) = omega arith
+
+pub words-below : (l : List ℕ) (i : ℕ) → getD (wordsOf l) i 0 < 256
+unfolding wordsOf
+words-below [] i = omega arith
+words-below (x ∷ later) i = below-append 256 (bytesOf 4 x) (wordsOf later) (bytes-below 4 x) (words-below later) i
+
+-- numbers that were read from bytes fit their bytes
+pub numbers-below : (s : List ℕ) (at n : ℕ) → ((i : ℕ) → getD s i 0 < 256) → (i : ℕ) → getD (numbersAt s at n) i 0 < 2 ^ 32
+unfolding numbersAt
+numbers-below s at n low i =
+    elim (decLt i n) [
+      | yes b ↦ omega (arith, getD-firsts 0 n (λ k. big 4 s (at + 4 * k)) i b, big-below 4 (at + 4 * i) s low)
+      | no p ↦ omega (arith, List·getD-eq-default (firsts n (λ k. big 4 s (at + 4 * k))) 0 {n = i} (omega (arith, p, length-firsts n (λ k. big 4 s (at + 4 * k)))))
+    ]
 
 -- what stands from the place at on: so many bytes, and what follows them
 part-then-rest : (n at : ℕ) (s : List ℕ) → take n (drop at s) ++ drop (at + n) s ≡ drop at s
@@ -215,8 +246,8 @@ module _ (f : Fields) where
   header-then-words = refl
 
   -- the file in its parts
-  in-four : fileOf f ≡ headerOf f ++ (wordsOf (f .weights) ++ (wordsOf (f .rewards) ++ wordsOf (f .rates)))
-  in-four =
+  file-in-parts : fileOf f ≡ headerOf f ++ (wordsOf (f .weights) ++ (wordsOf (f .rewards) ++ wordsOf (f .rates)))
+  file-in-parts =
       header-then-words
       ∙ ap (λ (l : List ℕ). headerOf f ++ l) (words-append (f .weights) (f .rewards ++ f .rates))
       ∙ ap (λ (l : List ℕ). headerOf f ++ (wordsOf (f .weights) ++ l)) (words-append (f .rewards) (f .rates))
@@ -262,7 +293,7 @@ module _ (f : Fields) where
     weights-of-file : fieldsOf (fileOf f) .weights ≡ f .weights
     unfolding fieldsOf
     weights-of-file =
-        ap₂ (λ (s : List ℕ) (n : ℕ). numbersAt s 13 n) in-four weights-held
+        ap₂ (λ (s : List ℕ) (n : ℕ). numbersAt s 13 n) file-in-parts weights-held
         ∙ numbers-of-words (f .weights) (headerOf f) (wordsOf (f .rewards) ++ wordsOf (f .rates)) 13 length-header (fits .weights-fit)
 
     -- what stands before the rewards, and before the rates
@@ -275,7 +306,7 @@ module _ (f : Fields) where
 
     at-rewards : fileOf f ≡ to-rewards ++ (wordsOf (f .rewards) ++ wordsOf (f .rates))
     unfolding to-rewards
-    at-rewards = in-four ∙ sym (append-assoc (headerOf f) (wordsOf (f .weights)) (wordsOf (f .rewards) ++ wordsOf (f .rates)))
+    at-rewards = file-in-parts ∙ sym (append-assoc (headerOf f) (wordsOf (f .weights)) (wordsOf (f .rewards) ++ wordsOf (f .rates)))
 
     at-rates : fileOf f ≡ (to-rewards ++ wordsOf (f .rewards)) ++ (wordsOf (f .rates) ++ [])
     at-rates = at-rewards ∙ sym (append-assoc to-rewards (wordsOf (f .rewards)) (wordsOf (f .rates))) ∙ ap (λ (l : List ℕ). (to-rewards ++ wordsOf (f .rewards)) ++ l) (sym (append-nil (wordsOf (f .rates))))
@@ -315,3 +346,53 @@ module _ (f : Fields) where
           rewards = rewards-of-file i;
           rates = rates-of-file i;
         }
+
+    -- such a file is as long as its version and number of states ask for, and says so
+    pub sized-file : Sized (fileOf f)
+    sized-file =
+        record {
+          states-min = omega (arith, states-of-file, fits .states-min);
+          size = omega (arith, length-file, length-append (f .weights) (f .rewards ++ f .rates), length-append (f .rewards) (f .rates), weights-held, fits .rewards-count, fits .rates-count, square (f .states) (fits .states-min), same-square);
+          counted = omega (arith, length-file, length-of-file);
+        }
+      where
+        same-square : stateCount (fileOf f) * stateCount (fileOf f) ≡ f .states * f .states
+        same-square = ap₂ _*_ states-of-file states-of-file
+
+    single-bytes : (k : ℕ) → getD (f .version ∷ f .states ∷ f .highest ∷ []) k 0 < 256
+    single-bytes zero = fits .version-fits
+    single-bytes (suc zero) = fits .states-fit
+    single-bytes (suc (suc zero)) = fits .highest-fits
+    single-bytes (suc (suc (suc k))) = omega arith
+
+    header-bytes : (k : ℕ) → getD (headerOf f) k 0 < 256
+    unfolding headerOf
+    header-bytes k =
+        below-append 256 (bytesOf 2 (4 * length (numbersOf f) + 11)) ((f .version ∷ f .states ∷ f .highest ∷ []) ++ (bytesOf 4 (f .tolerance) ++ bytesOf 4 (f .time))) (bytes-below 2 (4 * length (numbersOf f) + 11))
+        (below-append 256 (f .version ∷ f .states ∷ f .highest ∷ []) (bytesOf 4 (f .tolerance) ++ bytesOf 4 (f .time)) single-bytes
+        (below-append 256 (bytesOf 4 (f .tolerance)) (bytesOf 4 (f .time)) (bytes-below 4 (f .tolerance)) (bytes-below 4 (f .time))))
+        k
+
+    -- and holds bytes only
+    pub bytes-file : (i : ℕ) → getD (fileOf f) i 0 < 256
+    bytes-file i = rw header-then-words (below-append 256 (headerOf f) (wordsOf (numbersOf f)) header-bytes (words-below (numbersOf f)) i)
+
+-- the fields of such a file fit
+pub fields-fit : (s : List ℕ) → ((i : ℕ) → getD s i 0 < 256) → Sized s → Fits (fieldsOf s)
+unfolding fieldsOf distributions
+fields-fit s low sized =
+    record {
+      version-fits = low 2;
+      states-min = sized .states-min;
+      states-fit = low 3;
+      highest-fits = low 4;
+      tolerance-fits = big-below 4 5 s low;
+      time-fits = big-below 4 9 s low;
+      weights-count = length-numbers s 13 (distributions s * stateCount s);
+      rewards-count = length-numbers s _ (stateCount s);
+      rates-count = length-numbers s _ (stateCount s * (stateCount s - 1));
+      weights-fit = numbers-below s 13 (distributions s * stateCount s) low;
+      rewards-fit = numbers-below s _ (stateCount s) low;
+      rates-fit = numbers-below s _ (stateCount s * (stateCount s - 1)) low;
+      length-fits = omega (arith, length-whole s low sized, big-below 2 0 s low);
+    }
