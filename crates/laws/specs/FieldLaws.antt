@@ -11,7 +11,7 @@ use lib.Seq.{take-suc, take-add, take-all, drop-drop, getD-drop, getD-at}
 use lib.Dec.{eqb}
 use Rattle.definitions.specs.Sums.{firsts, pick}
 use Rattle.definitions.specs.Bytes.{big, bytesOf}
-use Rattle.definitions.specs.File.{lengthField, version, stateCount, highestMoment, toleranceField, timeField, distributions}
+use Rattle.definitions.specs.File.{lengthField, version, stateCount, highestMoment, toleranceField, timeField, distributions, rewardsAt}
 use Rattle.definitions.specs.Fields.{Fields, numbersAt, wordsOf, fieldsOf, numbersOf, fileOf}
 use Rattle.laws.specs.Rounding.{quotient-unique, remainder-unique, quotient-below, quotient-remainder, remainder-below}
 use Rattle.laws.specs.ListLaws.{length-firsts, getD-firsts, firsts-same}
@@ -175,16 +175,32 @@ module _ (s : List ℕ) (low : (i : ℕ) → getD s i 0 < 256) (sized : Sized s)
   abbrev D : ℕ
   D = distributions s
 
-  -- weights, rewards and rates are all numbers after the header
-  numbers-whole : numbersOf (fieldsOf s) ≡ numbersAt s 13 (D * M + (M + M * (M - 1)))
+  -- rewards and rates are all numbers from the rewards on
+  numbers-rest : fieldsOf s .rewards ++ fieldsOf s .rates ≡ numbersAt s (rewardsAt s) (M + M * (M - 1))
   unfolding fieldsOf
-  numbers-whole =
-      ap (λ (k : ℕ). numbersAt s 13 (D * M) ++ (numbersAt s (13 + 4 * (D * M)) M ++ numbersAt s k (M * (M - 1)))) start
-      ∙ ap (λ (l : List ℕ). numbersAt s 13 (D * M) ++ l) (sym (numbers-further s (13 + 4 * (D * M)) M (M * (M - 1))))
-      ∙ sym (numbers-further s 13 (D * M) (M + M * (M - 1)))
+  numbers-rest =
+      ap (λ (k : ℕ). numbersAt s (rewardsAt s) M ++ numbersAt s k (M * (M - 1))) start
+      ∙ sym (numbers-further s (rewardsAt s) M (M * (M - 1)))
     where
-      start : 13 + 4 * (D * M) + 4 * M + 4 * (M - 1) * 0 ≡ 13 + 4 * (D * M) + 4 * M
+      start : rewardsAt s + 4 * M + 4 * (M - 1) * 0 ≡ rewardsAt s + 4 * M
       start = omega arith
+
+  -- and with the weights all numbers after the header
+  numbers-whole : numbersOf (fieldsOf s) ≡ numbersAt s 13 (D * M + (M + M * (M - 1)))
+  numbers-whole =
+      ap (λ (l : List ℕ). fieldsOf s .weights ++ l) numbers-rest
+      ∙ (unfold fieldsOf in sym (numbers-further s 13 (D * M) (M + M * (M - 1))))
+
+  -- how many rewards and rates there are
+  pub length-rest : length (fieldsOf s .rewards ++ fieldsOf s .rates) ≡ M * M
+  length-rest = ap (length {A = ℕ}) numbers-rest ∙ length-numbers s (rewardsAt s) (M + M * (M - 1)) ∙ square M (sized .states-min)
+
+  -- their bytes are those from the rewards on
+  pub words-rest : wordsOf (fieldsOf s .rewards ++ fieldsOf s .rates) ≡ drop (rewardsAt s) s
+  words-rest =
+      ap wordsOf numbers-rest
+      ∙ words-of-numbers s (rewardsAt s) (M + M * (M - 1)) low (omega (arith, sized .size, square M (sized .states-min)))
+      ∙ take-all (4 * (M + M * (M - 1))) (drop (rewardsAt s) s) (omega (arith, sized .size, square M (sized .states-min), length-drop (rewardsAt s) s))
 
   -- and there is nothing else
   words-whole : wordsOf (numbersOf (fieldsOf s)) ≡ drop 13 s
