@@ -24,3 +24,4 @@ pub mod StartLaws
 pub mod Demand3
 pub mod SeriesLaws
 pub mod RemainderLaws
+pub mod ConvertLaws

@@ -1,0 +1,193 @@
+-- Document 02, S-5: a file moved to the other version: its bytes, what it states, and the way back.
+use Prim.Native.Nat.{ℕ, zero, suc, _+_, _*_, _-_, _≤_, _<_, _^_}
+use native.Mathlib.Omega.{arith}
+use native.Mathlib.Nat.{mul-le-mul}
+use native.Mathlib.Numerals.{sub-one}
+use mathlib.Core.Path.{_≡_, refl, sym, _∙_, ap, ap₂}
+use mathlib.Core.List.{List, [], _∷_, _++_, append-assoc, append-nil}
+use lib.ListN.{length, getD, take, drop, replicate, length-append, length-drop, length-replicate, replicate-append-replicate}
+use lib.Seq.{take-add, drop-drop, getD-drop, drop-at}
+use lib.Dec.{eqb}
+use Rattle.definitions.specs.Sums.{sum, pick}
+use Rattle.definitions.specs.Bytes.{big, bytesOf}
+use Rattle.definitions.specs.File.{lengthField, version, stateCount, highestMoment, toleranceField, timeField, distributions, weightField, rewardsAt, rewardField, rowAt, place, rateField}
+use Rattle.definitions.specs.Chain.{Model, modelOf}
+use Rattle.definitions.specs.Weights.{MILLION}
+use Rattle.definitions.specs.Fields.{Fields, numbersAt, wordsOf, fieldsOf, numbersOf, fileOf}
+use Rattle.definitions.specs.Convert.{inVersion2, inVersion1, movedTo2, movedTo1}
+use Rattle.laws.specs.ListLaws.{getD-firsts}
+use Rattle.laws.specs.ByteLaws.{length-bytes}
+use Rattle.laws.specs.FieldLaws.{bytes-of-big, words-append, Sized, length-rest, words-rest, Fits, length-file, version-of-file, states-of-file, highest-of-file, fields-of-file, sized-file, bytes-file, fields-fit, file-of-fields}
+
+-- the bytes of so many zeros
+words-zeros : (n : ℕ) → wordsOf (replicate n 0) ≡ replicate (4 * n) 0
+unfolding wordsOf bytesOf
+words-zeros zero = refl
+words-zeros (suc n) =
+    let four : 4 * suc n ≡ 4 + 4 * n = omega arith in
+    rw four (ap (λ (l : List ℕ). replicate 4 0 ++ l) (words-zeros n) ∙ replicate-append-replicate 4 (4 * n) 0)
+
+-- bytes 3 to 12: M, R, tolerance and time
+middle-bytes : (s : List ℕ) → ((i : ℕ) → getD s i 0 < 256) → 13 ≤ length s → (stateCount s ∷ highestMoment s ∷ []) ++ (bytesOf 4 (toleranceField s) ++ bytesOf 4 (timeField s)) ≡ take 10 (drop 3 s)
+middle-bytes s low header =
+    rw (bytes-of-big 4 5 s low (omega (arith, header)), bytes-of-big 4 9 s low (omega (arith, header)))
+    (ap (λ (l : List ℕ). l ++ (take 4 (drop 5 s) ++ take 4 (drop 9 s))) (two s (omega (arith, header)))
+    ∙ ap (λ (l : List ℕ). take 2 (drop 3 s) ++ (take 4 (drop 5 s) ++ take 4 l)) (sym (drop-drop 4 5 s))
+    ∙ ap (λ (l : List ℕ). take 2 (drop 3 s) ++ l) (sym (take-add 4 4 (drop 5 s)))
+    ∙ ap (λ (l : List ℕ). take 2 (drop 3 s) ++ take 8 l) (sym (drop-drop 2 3 s))
+    ∙ sym (take-add 2 8 (drop 3 s)))
+  where
+    two : (l : List ℕ) → 5 ≤ length l → getD l 3 0 ∷ getD l 4 0 ∷ [] ≡ take 2 (drop 3 l)
+    two (a ∷ b ∷ c ∷ d ∷ e ∷ later) h = refl
+    two (a ∷ b ∷ c ∷ d ∷ []) h = absurd (omega arith)
+    two (a ∷ b ∷ c ∷ []) h = absurd (omega arith)
+    two (a ∷ b ∷ []) h = absurd (omega arith)
+    two (a ∷ []) h = absurd (omega arith)
+    two [] h = absurd (omega arith)
+
+-- a number read from a later place on, and from what is left there
+big-drop : (width n k : ℕ) (l : List ℕ) → big width (drop n l) k ≡ big width l (n + k)
+unfolding big
+big-drop zero n k l = refl
+big-drop (suc width) n k l =
+    let place : n + (k + width) ≡ n + k + width = omega arith in
+    ap₂ (λ (a b : ℕ). a * 256 + b) (big-drop width n k l) (getD-drop n l (k + width) 0 ∙ ap (λ (i : ℕ). getD l i 0) place)
+
+-- two lists that are alike from a place of each on hold the same numbers from there on
+shifted : (width a b k : ℕ) (l x : List ℕ) → drop a l ≡ drop b x → big width l (a + k) ≡ big width x (b + k)
+shifted width a b k l x e = sym (big-drop width a k l) ∙ ap (λ (y : List ℕ). big width y k) e ∙ big-drop width b k x
+
+-- the model m with so many starting distributions, and the weights a
+abbrev withStart : Model → ℕ → (ℕ → ℕ) → Model
+withStart m d a =
+    record {
+      states = m .states;
+      highest = m .highest;
+      tolerance = m .tolerance;
+      time = m .time;
+      distributions = d;
+      start = a;
+      reward = m .reward;
+      transition = m .transition;
+    }
+
+-- the fields f in version v with the weights w
+abbrev starting : Fields → ℕ → List ℕ → Fields
+starting f v w =
+    record {
+      version = v;
+      states = f .states;
+      highest = f .highest;
+      tolerance = f .tolerance;
+      time = f .time;
+      weights = w;
+      rewards = f .rewards;
+      rates = f .rates;
+    }
+
+module _ (s : List ℕ) (low : (i : ℕ) → getD s i 0 < 256) (sized : Sized s) (v : ℕ) (w : List ℕ) where
+  abbrev M : ℕ
+  M = stateCount s
+
+  abbrev f : Fields
+  f = starting (fieldsOf s) v w
+
+  numbers-count : length (numbersOf f) ≡ length w + M * M
+  numbers-count = omega (arith, length-append w (fieldsOf s .rewards ++ fieldsOf s .rates), length-rest s low sized)
+
+  words-moved : wordsOf (numbersOf f) ≡ wordsOf w ++ drop (rewardsAt s) s
+  words-moved = words-append w (fieldsOf s .rewards ++ fieldsOf s .rates) ∙ ap (λ (l : List ℕ). wordsOf w ++ l) (words-rest s low sized)
+
+  -- its bytes: the length, the version, bytes 3 to 12 as they were, the weights, and the rewards and rates as they were
+  moved-bytes : fileOf f ≡ bytesOf 2 (4 * (length w + M * M) + 11) ++ (v ∷ []) ++ take 10 (drop 3 s) ++ wordsOf w ++ drop (rewardsAt s) s
+  unfolding fileOf
+  moved-bytes =
+      ap₂ (λ (n : ℕ) (l : List ℕ). bytesOf 2 (4 * n + 11) ++ ((v ∷ f .states ∷ f .highest ∷ []) ++ (bytesOf 4 (f .tolerance) ++ (bytesOf 4 (f .time) ++ l)))) numbers-count words-moved
+      ∙ rw (← (middle-bytes s low (omega (arith, sized .size)))) (unfold fieldsOf in simp append-assoc)
+
+  -- where the new weights fit, and are as many as version v asks for, it holds its fields
+  moved-fits : stateCount s ≤ 64 → v < 256 → length w ≡ pick (eqb v 2) 1 0 * M → length w ≤ M → ((i : ℕ) → getD w i 0 < 2 ^ 32) → Fits f
+  moved-fits few small counted short inside =
+      let own = fields-fit s low sized in
+      record {
+        version-fits = small;
+        states-min = own .states-min;
+        states-fit = own .states-fit;
+        highest-fits = own .highest-fits;
+        tolerance-fits = own .tolerance-fits;
+        time-fits = own .time-fits;
+        weights-count = unfold fieldsOf in counted;
+        rewards-count = own .rewards-count;
+        rates-count = own .rates-count;
+        weights-fit = inside;
+        rewards-fit = own .rewards-fit;
+        rates-fit = own .rates-fit;
+        length-fits = omega (arith, numbers-count, short, few, mul-le-mul few few);
+      }
+
+  module _ (fits : Fits f) where
+    abbrev t : List ℕ
+    t = fileOf f
+
+    fields-moved : fieldsOf t ≡ f
+    fields-moved = fields-of-file f fits
+
+    -- from the rewards on it has the bytes of s
+    rest-same : drop (rewardsAt t) t ≡ drop (rewardsAt s) s
+    rest-same =
+        sym (words-rest t (bytes-file f fits) (sized-file f fits))
+        ∙ ap (λ (x : Fields). wordsOf (x .rewards ++ x .rates)) fields-moved
+        ∙ words-rest s low sized
+
+    states-same : stateCount t ≡ stateCount s
+    unfolding fieldsOf
+    states-same = states-of-file f
+
+    highest-same : highestMoment t ≡ highestMoment s
+    unfolding fieldsOf
+    highest-same = highest-of-file f
+
+    tolerance-same : toleranceField t ≡ toleranceField s
+    unfolding fieldsOf
+    tolerance-same = ap (λ (x : Fields). x .tolerance) fields-moved
+
+    time-same : timeField t ≡ timeField s
+    unfolding fieldsOf
+    time-same = ap (λ (x : Fields). x .time) fields-moved
+
+    reward-same : (i : ℕ) → rewardField t i ≡ rewardField s i
+    reward-same i = shifted 4 (rewardsAt t) (rewardsAt s) (4 * i) t s rest-same
+
+    rate-same : (i j : ℕ) → rateField t i j ≡ rateField s i j
+    rate-same i j =
+        ap (big 4 t) (there t)
+        ∙ shifted 4 (rewardsAt t) (rewardsAt s) (4 * stateCount t + 4 * (stateCount t - 1) * i + 4 * place i j) t s rest-same
+        ∙ ap (λ (m : ℕ). big 4 s (rewardsAt s + (4 * m + 4 * (m - 1) * i + 4 * place i j))) states-same
+        ∙ ap (big 4 s) (sym (there s))
+      where
+        there : (x : List ℕ) → rowAt x i + 4 * place i j ≡ rewardsAt x + (4 * stateCount x + 4 * (stateCount x - 1) * i + 4 * place i j)
+        there x = omega arith
+
+    -- its model is that of s, with the number of distributions of version v, and with the weights that it holds
+    model-moved : modelOf t ≡ withStart (modelOf s) (distributions t) (weightField t)
+    model-moved =
+        λ i.
+        record {
+          states = states-same i;
+          highest = highest-same i;
+          tolerance = tolerance-same i;
+          time = time-same i;
+          distributions = distributions t;
+          start = weightField t;
+          reward = λ k. reward-same k i;
+          transition = λ j k. rate-same j k i;
+        }
+
+    distributions-moved : distributions t ≡ pick (eqb v 2) 1 0
+    unfolding distributions
+    distributions-moved = rw (version-of-file f)
+
+    -- the weights that it holds are w
+    weight-moved : (i : ℕ) → i < distributions t * stateCount t → weightField t i ≡ getD w i 0
+    unfolding fieldsOf numbersAt
+    weight-moved i h = sym (getD-firsts 0 (distributions t * stateCount t) (weightField t) i h) ∙ ap (λ (x : Fields). getD (x .weights) i 0) fields-moved
