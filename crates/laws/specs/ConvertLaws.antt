@@ -3,20 +3,25 @@ use Prim.Native.Nat.{ℕ, zero, suc, _+_, _*_, _-_, _≤_, _<_, _^_}
 use native.Mathlib.Omega.{arith}
 use native.Mathlib.Nat.{mul-le-mul}
 use native.Mathlib.Numerals.{sub-one}
-use mathlib.Core.Path.{_≡_, refl, sym, _∙_, ap, ap₂}
+use mathlib.Core.Path.{_≡_, refl, sym, _∙_, ap, ap₂, subst}
 use mathlib.Core.List.{List, [], _∷_, _++_, append-assoc, append-nil}
 use lib.ListN.{length, getD, take, drop, replicate, length-append, length-drop, length-replicate, replicate-append-replicate}
 use lib.Seq.{take-add, drop-drop, getD-drop, drop-at}
-use lib.Dec.{eqb}
+use mathlib.Core.Bool.{Bool, true, false, _||_}
+use lib.Dec.{eqb, ltb}
+use borrow.Author.Tests.{le-ltb}
 use Rattle.definitions.specs.Sums.{sum, pick}
 use Rattle.definitions.specs.Bytes.{big, bytesOf}
 use Rattle.definitions.specs.File.{lengthField, version, stateCount, highestMoment, toleranceField, timeField, distributions, weightField, rewardsAt, rewardField, rowAt, place, rateField}
-use Rattle.definitions.specs.Chain.{Model, modelOf}
+use Rattle.definitions.specs.Chain.{Model, modelOf, jumpRate, rowSum, uniformRate, c, maxReward, jumpMillionths}
+use Rattle.definitions.specs.Rules.{framing, fittingLength, quantities, misweighted, jumps, fileRows}
 use Rattle.definitions.specs.Weights.{MILLION}
+use Rattle.definitions.specs.Moment.{moment, modelLevel}
 use Rattle.definitions.specs.Fields.{Fields, numbersAt, wordsOf, fieldsOf, numbersOf, fileOf}
 use Rattle.definitions.specs.Convert.{inVersion2, inVersion1, movedTo2, movedTo1}
 use Rattle.laws.specs.ListLaws.{getD-firsts}
 use Rattle.laws.specs.ByteLaws.{length-bytes}
+use Rattle.laws.specs.RuleLaws.{NoneHold, none-in-parts, none-together, agree}
 use Rattle.laws.specs.FieldLaws.{bytes-of-big, words-append, Sized, length-rest, words-rest, Fits, length-file, version-of-file, states-of-file, highest-of-file, fields-of-file, sized-file, bytes-file, fields-fit, file-of-fields}
 
 -- the bytes of so many zeros
@@ -191,3 +196,64 @@ module _ (s : List ℕ) (low : (i : ℕ) → getD s i 0 < 256) (sized : Sized s)
     weight-moved : (i : ℕ) → i < distributions t * stateCount t → weightField t i ≡ getD w i 0
     unfolding fieldsOf numbersAt
     weight-moved i h = sym (getD-firsts 0 (distributions t * stateCount t) (weightField t) i h) ∙ ap (λ (x : Fields). getD (x .weights) i 0) fields-moved
+
+    -- rows 1 to 6, where version v is admitted
+    framing-moved : (a b oldest newest : ℕ) → oldest ≤ v → v ≤ newest → NoneHold (framing a b s) → NoneHold (framing oldest newest t)
+    unfolding framing
+    framing-moved a b oldest newest old new row =
+        let size = sized-file f fits in
+        (le-ltb (length t) 13 (omega (arith, size .size)), (agree (lengthField t) (length t - 2) (size .counted), (admitted, (rw states-same (row .1 .1 .1 .0), (rw highest-same (row .1 .1 .1 .1 .0), (agree (lengthField t) (fittingLength t) (omega (arith, size .size, size .counted)), tt))))))
+      where
+        admitted : (ltb (version t) oldest || ltb newest (version t)) ≡ false
+        admitted = rw (version-of-file f, le-ltb v oldest old, le-ltb newest v new) refl
+
+    -- rows 7 to 11, where its weights pass row 16
+    quantities-moved : misweighted (withStart (modelOf s) (distributions t) (weightField t)) ≡ false → NoneHold (quantities (modelOf s) []) → NoneHold (quantities (modelOf t) [])
+    unfolding quantities jumpRate rowSum
+    quantities-moved weighed row = subst (λ (m : Model). NoneHold (quantities m [])) (sym model-moved) (row .0, (row .1 .0, (weighed, row .1 .1 .1)))
+
+    -- row 12
+    jumps-moved : NoneHold (jumps (uniformRate (modelOf s)) (timeField s)) → NoneHold (jumps (uniformRate (modelOf t)) (timeField t))
+    unfolding jumpRate rowSum uniformRate
+    jumps-moved row = subst (λ (m : Model). NoneHold (jumps (uniformRate m) (m .time))) (sym model-moved) row
+
+    -- all of them
+    rows-moved : (a b oldest newest : ℕ) → oldest ≤ v → v ≤ newest → misweighted (withStart (modelOf s) (distributions t) (weightField t)) ≡ false → NoneHold (fileRows a b s) → NoneHold (fileRows oldest newest t)
+    rows-moved a b oldest newest old new weighed none =
+        let to12 = none-in-parts (framing a b s ++ quantities (modelOf s) []) (jumps (uniformRate (modelOf s)) (timeField s)) none in
+        let to11 = none-in-parts (framing a b s) (quantities (modelOf s) []) (to12 .0) in
+        none-together (framing oldest newest t ++ quantities (modelOf t) []) (jumps (uniformRate (modelOf t)) (timeField t))
+        (none-together (framing oldest newest t) (quantities (modelOf t) []) (framing-moved a b oldest newest old new (to11 .0)) (quantities-moved weighed (to11 .1)))
+        (jumps-moved (to12 .1))
+
+    -- the level, and the moments
+    level-moved : modelLevel (modelOf t) ≡ modelLevel (modelOf s)
+    unfolding modelLevel jumpMillionths jumpRate rowSum uniformRate
+    level-moved = ap modelLevel model-moved
+
+    moments-moved : (N r i : ℕ) → moment (modelOf t) N r i ≡ moment (modelOf s) N r i
+    unfolding moment jumpMillionths jumpRate rowSum uniformRate c maxReward
+    moments-moved N r i = ap (λ (m : Model). moment m N r i) model-moved
+
+    -- and moved once more
+    moved-again : (u : ℕ) (x : List ℕ) → fileOf (starting (fieldsOf t) u x) ≡ fileOf (starting (fieldsOf s) u x)
+    moved-again u x = ap (λ (y : Fields). fileOf (starting y u x)) fields-moved
+
+  -- a file with the version and the weights that it has
+  same-start : version s ≡ v → fieldsOf s .weights ≡ w → fileOf f ≡ s
+  unfolding fieldsOf
+  same-start e q = ap fileOf fields ∙ file-of-fields s low sized
+    where
+      fields : f ≡ fieldsOf s
+      fields =
+          λ i.
+          record {
+            version = sym e i;
+            states = fieldsOf s .states;
+            highest = fieldsOf s .highest;
+            tolerance = fieldsOf s .tolerance;
+            time = fieldsOf s .time;
+            weights = sym q i;
+            rewards = fieldsOf s .rewards;
+            rates = fieldsOf s .rates;
+          }
