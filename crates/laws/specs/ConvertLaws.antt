@@ -2,15 +2,15 @@
 use Prim.Native.Nat.{ℕ, zero, suc, _+_, _*_, _-_, _≤_, _<_, _^_}
 use native.Mathlib.Omega.{arith}
 use native.Mathlib.Nat.{mul-le-mul}
-use native.Mathlib.Numerals.{sub-one}
+use native.Mathlib.Numerals.{add-one}
 use mathlib.Core.Path.{_≡_, refl, sym, _∙_, ap, ap₂, subst}
 use mathlib.Core.List.{List, [], _∷_, _++_, append-assoc, append-nil}
 use lib.ListN.{length, getD, take, drop, replicate, length-append, length-drop, length-replicate, replicate-append-replicate}
 use lib.Seq.{take-add, drop-drop, getD-drop, drop-at}
-use mathlib.Core.Bool.{Bool, true, false, _||_}
+use mathlib.Core.Bool.{Bool, true, false, not, _||_, _&&_}
 use lib.Dec.{eqb, ltb}
-use borrow.Author.Tests.{le-ltb}
-use Rattle.definitions.specs.Sums.{sum, pick}
+use borrow.Author.Tests.{le-ltb, ltb-false, eqb-true, not-false}
+use Rattle.definitions.specs.Sums.{sum, largest, anyAbove, pick}
 use Rattle.definitions.specs.Bytes.{big, bytesOf}
 use Rattle.definitions.specs.File.{lengthField, version, stateCount, highestMoment, toleranceField, timeField, distributions, weightField, rewardsAt, rewardField, rowAt, place, rateField}
 use Rattle.definitions.specs.Chain.{Model, modelOf, jumpRate, rowSum, uniformRate, c, maxReward, jumpMillionths}
@@ -19,6 +19,7 @@ use Rattle.definitions.specs.Weights.{MILLION}
 use Rattle.definitions.specs.Moment.{moment, modelLevel}
 use Rattle.definitions.specs.Fields.{Fields, numbersAt, wordsOf, fieldsOf, numbersOf, fileOf}
 use Rattle.definitions.specs.Convert.{inVersion2, inVersion1, movedTo2, movedTo1}
+use Rattle.laws.specs.SumLaws.{sum-zero, sum-suc, sum-same, sum-constant, sum-split, any-largest, largest-le, le-largest}
 use Rattle.laws.specs.ListLaws.{getD-firsts}
 use Rattle.laws.specs.ByteLaws.{length-bytes}
 use Rattle.laws.specs.RuleLaws.{NoneHold, none-in-parts, none-together, agree}
@@ -257,3 +258,87 @@ module _ (s : List ℕ) (low : (i : ℕ) → getD s i 0 < 256) (sized : Sized s)
             rewards = fieldsOf s .rewards;
             rates = fieldsOf s .rates;
           }
+
+-- numbers of which all but the first are 0
+sum-first : (n : ℕ) (a : ℕ → ℕ) → 1 ≤ n → ((i : ℕ) → i < n - 1 → a (i + 1) ≡ 0) → sum n a ≡ a 0
+sum-first n a low zeros =
+    let whole : 1 + (n - 1) ≡ n = omega arith in
+    let later : sum (n - 1) (λ j. a (1 + j)) ≡ sum (n - 1) (λ j. 0) = sum-same (n - 1) (λ j. a (1 + j)) (λ j. 0) (λ j h. ap a (omega arith) ∙ zeros j h) in
+    let first : sum 1 a ≡ a 0 = sum-suc 0 a ∙ omega (arith, sum-zero a) in
+    ap (λ (k : ℕ). sum k a) (sym whole) ∙ sum-split 1 (n - 1) a ∙ omega (arith, first, later, sum-constant (n - 1) 0)
+
+-- row 17 finds none where all are 0, and where it finds none all are 0
+none-found : (n : ℕ) (a : ℕ → ℕ) → ((i : ℕ) → i < n → a i ≡ 0) → anyAbove 0 n a ≡ false
+none-found n a zeros = any-largest 0 n a ∙ le-ltb 0 (largest n a) (largest-le n 0 a (λ i h. omega (arith, zeros i h)))
+
+all-zero : (n : ℕ) (a : ℕ → ℕ) → anyAbove 0 n a ≡ false → (i : ℕ) → i < n → a i ≡ 0
+all-zero n a none i h = omega (arith, le-largest n a i h, ltb-false 0 (largest n a) (sym (any-largest 0 n a) ∙ none))
+
+getD-zeros : (n i : ℕ) → _≡_ {A = ℕ} (getD (replicate n 0) i 0) 0
+getD-zeros zero i = refl
+getD-zeros (suc n) zero = refl
+getD-zeros (suc n) (suc i) = getD-zeros n i
+
+-- all weight on the first of n states
+abbrev onFirst : ℕ → List ℕ
+onFirst n = MILLION ∷ replicate (n - 1) 0
+
+first-count : (n : ℕ) → 1 ≤ n → length (onFirst n) ≡ n
+first-count n h = omega (arith, length-replicate {A = ℕ} (n - 1) 0)
+
+first-fits : (n i : ℕ) → getD (onFirst n) i 0 < 2 ^ 32
+first-fits n zero = omega arith
+first-fits n (suc i) = omega (arith, getD-zeros (n - 1) i)
+
+first-later : (n i : ℕ) → getD (onFirst n) (i + 1) 0 ≡ 0
+first-later n i = ap (λ (k : ℕ). getD (onFirst n) k 0) (add-one i) ∙ getD-zeros (n - 1) i
+
+-- row 16 passes where there is no starting distribution, and where the weights sum to 1,000,000
+unweighted : (m : Model) → m .distributions ≡ 0 → misweighted m ≡ false
+unweighted m e = rw e refl
+
+well-weighted : (m : Model) → sum (m .states) (m .start) ≡ 1000000 → misweighted m ≡ false
+well-weighted m e = ap (λ (b : Bool). ltb 0 (m .distributions) && b) (agree (sum (m .states) (m .start)) 1000000 e) ∙ neither-way (ltb 0 (m .distributions))
+  where
+    neither-way : (b : Bool) → (b && false) ≡ false
+    neither-way true = refl
+    neither-way false = refl
+
+-- and where it passes with a distribution they do
+weights-sum : (m : Model) → m .distributions ≡ 1 → misweighted m ≡ false → sum (m .states) (m .start) ≡ 1000000
+weights-sum m e h =
+    let tested : (ltb 0 1 && not (eqb (sum (m .states) (m .start)) 1000000)) ≡ false = rw e at h in
+    eqb-true (sum (m .states) (m .start)) 1000000 (not-false (eqb (sum (m .states) (m .start)) 1000000) tested)
+
+-- how many distributions a version has
+none-in-1 : (s : List ℕ) → version s ≡ 1 → distributions s ≡ 0
+unfolding distributions
+none-in-1 s e = rw e refl
+
+one-in-2 : (s : List ℕ) → version s ≡ 2 → distributions s ≡ 1
+unfolding distributions
+one-in-2 s e = rw e refl
+
+module _ (s : List ℕ) (low : (i : ℕ) → getD s i 0 < 256) (sized : Sized s) (few : stateCount s ≤ 64) where
+  -- in version 2
+  with-first : movedTo2 s ≡ fileOf (starting (fieldsOf s) 2 (onFirst (stateCount s)))
+  unfolding inVersion2 fieldsOf
+  with-first = refl
+
+  fits2 : Fits (starting (fieldsOf s) 2 (onFirst (stateCount s)))
+  fits2 =
+      let count = first-count (stateCount s) (sized .states-min) in
+      moved-fits s low sized 2 (onFirst (stateCount s)) few (omega arith) (omega (arith, count)) (omega (arith, count)) (first-fits (stateCount s))
+
+  weight-on : (i : ℕ) → i < stateCount s → weightField (fileOf (starting (fieldsOf s) 2 (onFirst (stateCount s)))) i ≡ getD (onFirst (stateCount s)) i 0
+  weight-on i h =
+      weight-moved s low sized 2 (onFirst (stateCount s)) fits2 i
+      (omega (arith, h, ap₂ _*_ (distributions-moved s low sized 2 (onFirst (stateCount s)) fits2) (states-same s low sized 2 (onFirst (stateCount s)) fits2)))
+
+  -- in version 1
+  without-weights : movedTo1 s ≡ fileOf (starting (fieldsOf s) 1 [])
+  unfolding inVersion1
+  without-weights = refl
+
+  fits1 : Fits (starting (fieldsOf s) 1 [])
+  fits1 = moved-fits s low sized 1 [] few (omega arith) (omega arith) (omega arith) (λ i. omega arith)
