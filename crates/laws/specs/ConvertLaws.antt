@@ -10,20 +10,21 @@ use lib.Seq.{take-add, drop-drop, getD-drop, drop-at}
 use mathlib.Core.Bool.{Bool, true, false, not, _||_, _&&_}
 use lib.Dec.{eqb, ltb}
 use borrow.Author.Tests.{le-ltb, ltb-false, eqb-true, not-false}
-use Rattle.definitions.specs.Sums.{sum, largest, anyAbove, pick}
+use Rattle.definitions.specs.Sums.{sum, largest, anyAbove, firsts, pick}
 use Rattle.definitions.specs.Bytes.{big, bytesOf}
 use Rattle.definitions.specs.File.{lengthField, version, stateCount, highestMoment, toleranceField, timeField, distributions, weightField, rewardsAt, rewardField, rowAt, place, rateField}
 use Rattle.definitions.specs.Chain.{Model, modelOf, jumpRate, rowSum, uniformRate, c, maxReward, jumpMillionths}
-use Rattle.definitions.specs.Rules.{framing, fittingLength, quantities, misweighted, jumps, fileRows}
+use Rattle.definitions.specs.Rules.{accepted, Rows, framing, fittingLength, quantities, misweighted, jumps, room, fileRows, fileJudgement}
 use Rattle.definitions.specs.Weights.{MILLION}
 use Rattle.definitions.specs.Moment.{moment, modelLevel}
 use Rattle.definitions.specs.Fields.{Fields, numbersAt, wordsOf, fieldsOf, numbersOf, fileOf}
-use Rattle.definitions.specs.Convert.{inVersion2, inVersion1, movedTo2, movedTo1}
+use Rattle.definitions.specs.Written.{fileFor}
+use Rattle.definitions.specs.Convert.{inVersion2, inVersion1, movedTo2, movedTo1, elsewhere, toVersion2, toVersion1, Moved}
 use Rattle.laws.specs.SumLaws.{sum-zero, sum-suc, sum-same, sum-constant, sum-split, any-largest, largest-le, le-largest}
 use Rattle.laws.specs.ListLaws.{getD-firsts}
 use Rattle.laws.specs.ByteLaws.{length-bytes}
-use Rattle.laws.specs.RuleLaws.{NoneHold, none-in-parts, none-together, agree}
-use Rattle.laws.specs.FieldLaws.{bytes-of-big, words-append, Sized, length-rest, words-rest, Fits, length-file, version-of-file, states-of-file, highest-of-file, fields-of-file, sized-file, bytes-file, fields-fit, file-of-fields}
+use Rattle.laws.specs.RuleLaws.{NoneHold, none-in-parts, none-together, all-pass, agree}
+use Rattle.laws.specs.FieldLaws.{bytes-of-big, words-first, words-append, Sized, length-rest, words-rest, Fits, length-file, version-of-file, states-of-file, highest-of-file, fields-of-file, sized-file, bytes-file, fields-fit, file-of-fields}
 
 -- the bytes of so many zeros
 words-zeros : (n : ℕ) → wordsOf (replicate n 0) ≡ replicate (4 * n) 0
@@ -310,6 +311,13 @@ weights-sum m e h =
     let tested : (ltb 0 1 && not (eqb (sum (m .states) (m .start)) 1000000)) ≡ false = rw e at h in
     eqb-true (sum (m .states) (m .start)) 1000000 (not-false (eqb (sum (m .states) (m .start)) 1000000) tested)
 
+-- a file for which no row holds is written, where the bytes that are lent are enough
+file-written : (table : Rows) (x file : List ℕ) (lent : ℕ) → NoneHold table → x ≡ file → length file ≤ lent → fileFor table x lent ≡ accepted file
+unfolding fileFor room
+file-written table x file lent none e enough =
+    ap (λ (l : List ℕ). fileFor table l lent) e
+    ∙ all-pass (table ++ room (length file) lent) file (none-together table (room (length file) lent) none (le-ltb lent (length file) enough, tt))
+
 -- how many distributions a version has
 none-in-1 : (s : List ℕ) → version s ≡ 1 → distributions s ≡ 0
 unfolding distributions
@@ -342,3 +350,82 @@ module _ (s : List ℕ) (low : (i : ℕ) → getD s i 0 < 256) (sized : Sized s)
 
   fits1 : Fits (starting (fieldsOf s) 1 [])
   fits1 = moved-fits s low sized 1 [] few (omega arith) (omega arith) (omega arith) (λ i. omega arith)
+
+  module _ (is-1 : version s ≡ 1) where
+    abbrev there : List ℕ
+    there = fileOf (starting (fieldsOf s) 2 (onFirst (stateCount s)))
+
+    -- the length field that a version 1 file has
+    counted-1 : lengthField s ≡ 4 * (stateCount s * stateCount s) + 11
+    counted-1 = omega (arith, sized .size, sized .counted, ap (λ (d : ℕ). d * stateCount s) (none-in-1 s is-1))
+
+    rewards-1 : rewardsAt s ≡ 13
+    rewards-1 = omega (arith, ap (λ (d : ℕ). d * stateCount s) (none-in-1 s is-1))
+
+    -- the bytes of a version 1 file moved to version 2
+    pub bytes-there : movedTo2 s ≡ bytesOf 2 (lengthField s + 4 * stateCount s) ++ (2 ∷ []) ++ take 10 (drop 3 s) ++ bytesOf 4 1000000 ++ replicate (4 * (stateCount s - 1)) 0 ++ drop 13 s
+    bytes-there =
+        with-first
+        ∙ moved-bytes s low sized 2 (onFirst (stateCount s))
+        ∙ ap₂ (λ (n k : ℕ). bytesOf 2 n ++ (2 ∷ []) ++ take 10 (drop 3 s) ++ wordsOf (onFirst (stateCount s)) ++ drop k s) same-length rewards-1
+        ∙ ap (λ (l : List ℕ). before ++ l ++ drop 13 s) words
+        ∙ ap (λ (l : List ℕ). l ++ drop 13 s) (sym (append-assoc before (bytesOf 4 1000000) (replicate (4 * (stateCount s - 1)) 0)))
+      where
+        before : List ℕ
+        before = bytesOf 2 (lengthField s + 4 * stateCount s) ++ (2 ∷ []) ++ take 10 (drop 3 s)
+
+        same-length : 4 * (length (onFirst (stateCount s)) + stateCount s * stateCount s) + 11 ≡ lengthField s + 4 * stateCount s
+        same-length = omega (arith, counted-1, first-count (stateCount s) (sized .states-min))
+
+        words : wordsOf (onFirst (stateCount s)) ≡ bytesOf 4 1000000 ++ replicate (4 * (stateCount s - 1)) 0
+        words = words-first MILLION (replicate (stateCount s - 1) 0) ∙ ap (λ (l : List ℕ). bytesOf 4 1000000 ++ l) (words-zeros (stateCount s - 1))
+
+    pub length-there : length (movedTo2 s) ≡ length s + 4 * stateCount s
+    length-there = ap (length {A = ℕ}) with-first ∙ omega (arith, length-file (starting (fieldsOf s) 2 (onFirst (stateCount s))), numbers-count s low sized 2 (onFirst (stateCount s)), first-count (stateCount s) (sized .states-min), sized .size, ap (λ (d : ℕ). d * stateCount s) (none-in-1 s is-1))
+
+    -- its weights
+    distributions-there : distributions there ≡ 1
+    distributions-there = distributions-moved s low sized 2 (onFirst (stateCount s)) fits2
+
+    weighed-there : misweighted (withStart (modelOf s) (distributions there) (weightField there)) ≡ false
+    weighed-there =
+        well-weighted (withStart (modelOf s) (distributions there) (weightField there))
+        (sum-first (stateCount s) (weightField there) (sized .states-min) (λ i h. weight-on (i + 1) (omega arith) ∙ first-later (stateCount s) i)
+        ∙ weight-on 0 (sized .states-min))
+
+    none-elsewhere : NoneHold (elsewhere (modelOf there))
+    unfolding elsewhere
+    none-elsewhere =
+        (none-found (stateCount there - 1) (λ i. weightField there (i + 1)) (λ i h. weight-on (i + 1) (omega (arith, h, states-same s low sized 2 (onFirst (stateCount s)) fits2)) ∙ first-later (stateCount s) i), tt)
+
+    -- it has no weights of its own
+    weights-1 : fieldsOf s .weights ≡ []
+    unfolding fieldsOf numbersAt firsts
+    weights-1 = let none : distributions s * stateCount s ≡ 0 = ap (λ (d : ℕ). d * stateCount s) (none-in-1 s is-1) ∙ omega arith in rw none refl
+
+    -- and back
+    pub there-back : movedTo1 (movedTo2 s) ≡ s
+    unfolding inVersion1
+    there-back =
+        ap movedTo1 with-first
+        ∙ moved-again s low sized 2 (onFirst (stateCount s)) fits2 1 []
+        ∙ same-start s low sized 1 [] is-1 weights-1
+
+    -- which the call back returns
+    back-there : NoneHold (fileRows 1 1 s) → (lent : ℕ) → length s ≤ lent → toVersion1 there lent ≡ accepted s
+    unfolding toVersion1
+    back-there none lent enough =
+        file-written (fileRows 2 2 there ++ elsewhere (modelOf there)) (movedTo1 there) s lent
+        (none-together (fileRows 2 2 there) (elsewhere (modelOf there)) (rows-moved s low sized 2 (onFirst (stateCount s)) fits2 1 1 2 2 (omega arith) (omega arith) weighed-there none) none-elsewhere)
+        (sym (ap movedTo1 with-first) ∙ there-back)
+        enough
+
+    -- of a file that the move accepts
+    moved-there : NoneHold (fileRows 1 1 s) → Moved s there toVersion1
+    moved-there none =
+        record {
+          accepts = unfold fileJudgement in all-pass (fileRows 1 2 there) tt (rows-moved s low sized 2 (onFirst (stateCount s)) fits2 1 1 1 2 (omega arith) (omega arith) weighed-there none);
+          same-level = level-moved s low sized 2 (onFirst (stateCount s)) fits2;
+          same-moments = moments-moved s low sized 2 (onFirst (stateCount s)) fits2;
+          returns = back-there none;
+        }

@@ -80,7 +80,8 @@ unfolding wordsOf
 words-append [] b = refl
 words-append (x ∷ later) b = ap (λ (l : List ℕ). bytesOf 4 x ++ l) (words-append later b) ∙ sym (append-assoc (bytesOf 4 x) (wordsOf later) (wordsOf b))
 
-words-first : (x : ℕ) (later : List ℕ) → wordsOf (x ∷ later) ≡ bytesOf 4 x ++ wordsOf later
+-- the bytes of the first number, and those of the later ones
+pub words-first : (x : ℕ) (later : List ℕ) → wordsOf (x ∷ later) ≡ bytesOf 4 x ++ wordsOf later
 unfolding wordsOf
 words-first x later = refl
 
