@@ -6,7 +6,7 @@ use native.Mathlib.Numerals.{add-one}
 use mathlib.Core.Path.{_≡_, refl, sym, _∙_, ap, ap₂, subst}
 use mathlib.Core.List.{List, [], _∷_, _++_, append-assoc, append-nil}
 use lib.ListN.{length, getD, take, drop, replicate, length-append, length-drop, length-replicate, replicate-append-replicate}
-use lib.Seq.{take-add, drop-drop, getD-drop, drop-at}
+use lib.Seq.{take-add, drop-drop, getD-drop, ext-getD}
 use mathlib.Core.Bool.{Bool, true, false, not, _||_, _&&_}
 use lib.Dec.{eqb, ltb}
 use borrow.Author.Tests.{le-ltb, ltb-false, eqb-true, not-false}
@@ -21,7 +21,7 @@ use Rattle.definitions.specs.Fields.{Fields, numbersAt, wordsOf, fieldsOf, numb
 use Rattle.definitions.specs.Written.{fileFor}
 use Rattle.definitions.specs.Convert.{inVersion2, inVersion1, movedTo2, movedTo1, elsewhere, toVersion2, toVersion1, Moved}
 use Rattle.laws.specs.SumLaws.{sum-zero, sum-suc, sum-same, sum-constant, sum-split, any-largest, largest-le, le-largest}
-use Rattle.laws.specs.ListLaws.{getD-firsts}
+use Rattle.laws.specs.ListLaws.{length-firsts, getD-firsts}
 use Rattle.laws.specs.ByteLaws.{length-bytes}
 use Rattle.laws.specs.RuleLaws.{NoneHold, none-in-parts, none-together, all-pass, agree}
 use Rattle.laws.specs.FieldLaws.{bytes-of-big, words-first, words-append, Sized, length-rest, words-rest, Fits, length-file, version-of-file, states-of-file, highest-of-file, fields-of-file, sized-file, bytes-file, fields-fit, file-of-fields}
@@ -429,3 +429,91 @@ module _ (s : List ℕ) (low : (i : ℕ) → getD s i 0 < 256) (sized : Sized s)
           same-moments = moments-moved s low sized 2 (onFirst (stateCount s)) fits2;
           returns = back-there none;
         }
+
+  module _ (is-2 : version s ≡ 2) where
+    abbrev back : List ℕ
+    back = fileOf (starting (fieldsOf s) 1 [])
+
+    -- the length field that a version 2 file has
+    counted-2 : lengthField s ≡ 4 * (stateCount s * stateCount s) + 4 * stateCount s + 11
+    counted-2 = omega (arith, sized .size, sized .counted, ap (λ (d : ℕ). d * stateCount s) (one-in-2 s is-2))
+
+    rewards-2 : rewardsAt s ≡ 13 + 4 * stateCount s
+    rewards-2 = omega (arith, ap (λ (d : ℕ). d * stateCount s) (one-in-2 s is-2))
+
+    -- the bytes of a version 2 file moved to version 1
+    pub bytes-back : movedTo1 s ≡ bytesOf 2 (lengthField s - 4 * stateCount s) ++ (1 ∷ []) ++ take 10 (drop 3 s) ++ drop (13 + 4 * stateCount s) s
+    bytes-back =
+        without-weights
+        ∙ moved-bytes s low sized 1 []
+        ∙ ap₂ (λ (n k : ℕ). bytesOf 2 n ++ (1 ∷ []) ++ take 10 (drop 3 s) ++ wordsOf [] ++ drop k s) same-length rewards-2
+        ∙ ap (λ (l : List ℕ). before ++ l ++ drop (13 + 4 * stateCount s) s) no-words
+        ∙ ap (λ (l : List ℕ). l ++ drop (13 + 4 * stateCount s) s) (append-nil before)
+      where
+        before : List ℕ
+        before = bytesOf 2 (lengthField s - 4 * stateCount s) ++ (1 ∷ []) ++ take 10 (drop 3 s)
+
+        same-length : 4 * (0 + stateCount s * stateCount s) + 11 ≡ lengthField s - 4 * stateCount s
+        same-length = omega (arith, counted-2)
+
+        no-words : wordsOf [] ≡ []
+        no-words = unfold wordsOf in refl
+
+    pub length-back : length (movedTo1 s) + 4 * stateCount s ≡ length s
+    length-back = ap (λ (l : List ℕ). length l + 4 * stateCount s) without-weights ∙ omega (arith, length-file (starting (fieldsOf s) 1 []), numbers-count s low sized 1 [], sized .size, ap (λ (d : ℕ). d * stateCount s) (one-in-2 s is-2))
+
+    -- it has no distribution
+    weighed-back : misweighted (withStart (modelOf s) (distributions back) (weightField back)) ≡ false
+    weighed-back = unweighted (withStart (modelOf s) (distributions back) (weightField back)) (distributions-moved s low sized 1 [] fits1)
+
+    module _ (none : NoneHold (fileRows 2 2 s)) (first : NoneHold (elsewhere (modelOf s))) where
+      -- row 16
+      sum-2 : sum (stateCount s) (weightField s) ≡ 1000000
+      unfolding quantities
+      sum-2 =
+          let to12 = none-in-parts (framing 2 2 s ++ quantities (modelOf s) []) (jumps (uniformRate (modelOf s)) (timeField s)) none in
+          let to11 = none-in-parts (framing 2 2 s) (quantities (modelOf s) []) (to12 .0) in
+          weights-sum (modelOf s) (one-in-2 s is-2) (to11 .1 .1 .1 .0)
+
+      -- row 17
+      zero-later : (i : ℕ) → i < stateCount s - 1 → weightField s (i + 1) ≡ 0
+      unfolding elsewhere
+      zero-later = all-zero (stateCount s - 1) (λ i. weightField s (i + 1)) (first .0)
+
+      million-first : weightField s 0 ≡ 1000000
+      million-first = sym (sum-first (stateCount s) (weightField s) (sized .states-min) zero-later) ∙ sum-2
+
+      -- so its weights are 1,000,000 and then zeros
+      weight-is : (i : ℕ) → i < stateCount s → weightField s i ≡ getD (onFirst (stateCount s)) i 0
+      weight-is zero h = million-first
+      weight-is (suc i) h = ap (weightField s) (sym (add-one i)) ∙ zero-later i (omega arith) ∙ sym (getD-zeros (stateCount s - 1) i)
+
+      weights-2 : fieldsOf s .weights ≡ onFirst (stateCount s)
+      unfolding fieldsOf numbersAt
+      weights-2 =
+          let all : distributions s * stateCount s ≡ stateCount s = ap (λ (d : ℕ). d * stateCount s) (one-in-2 s is-2) ∙ omega arith in
+          ap (λ (n : ℕ). firsts n (weightField s)) all
+          ∙ ext-getD 0 (firsts (stateCount s) (weightField s)) (onFirst (stateCount s)) (length-firsts (stateCount s) (weightField s) ∙ sym (first-count (stateCount s) (sized .states-min)))
+          (λ i h. let inside : i < stateCount s = omega (arith, h, length-firsts (stateCount s) (weightField s)) in getD-firsts 0 (stateCount s) (weightField s) i inside ∙ weight-is i inside)
+
+      -- and back
+      pub back-there-again : movedTo2 (movedTo1 s) ≡ s
+      unfolding inVersion1 inVersion2 fieldsOf
+      back-there-again = ap (λ (x : Fields). fileOf (inVersion2 x)) (fields-moved s low sized 1 [] fits1) ∙ same-start s low sized 2 (onFirst (stateCount s)) is-2 weights-2
+
+      -- which the call back returns
+      returns-there : (lent : ℕ) → length s ≤ lent → toVersion2 back lent ≡ accepted s
+      unfolding toVersion2
+      returns-there lent enough =
+          file-written (fileRows 1 1 back) (movedTo2 back) s lent (rows-moved s low sized 1 [] fits1 2 2 1 1 (omega arith) (omega arith) weighed-back none)
+          (sym (ap movedTo2 without-weights) ∙ back-there-again) enough
+
+      -- of a file that the move accepts
+      moved-back : Moved s back toVersion2
+      moved-back =
+          record {
+            accepts = unfold fileJudgement in all-pass (fileRows 1 2 back) tt (rows-moved s low sized 1 [] fits1 2 2 1 2 (omega arith) (omega arith) weighed-back none);
+            same-level = level-moved s low sized 1 [] fits1;
+            same-moments = moments-moved s low sized 1 [] fits1;
+            returns = returns-there;
+          }
