@@ -1,30 +1,29 @@
--- Document 02, S-5: a file moved to the other version: its bytes, what it states, and the way back.
+-- Document 02, S-5: a file moved to the other version: its bytes, what calls answer of it, and the way back.
 use Prim.Native.Nat.{ℕ, zero, suc, _+_, _*_, _-_, _≤_, _<_, _^_}
 use native.Mathlib.Omega.{arith}
-use native.Mathlib.Nat.{mul-le-mul}
 use native.Mathlib.Numerals.{add-one}
 use mathlib.Core.Path.{_≡_, refl, sym, _∙_, ap, ap₂, subst}
+use mathlib.Core.Bool.{Bool, true, false, not, _&&_}
 use mathlib.Core.List.{List, [], _∷_, _++_, append-assoc, append-nil}
-use lib.ListN.{length, getD, take, drop, replicate, length-append, length-drop, length-replicate, replicate-append-replicate}
-use lib.Seq.{take-add, drop-drop, getD-drop, ext-getD}
-use mathlib.Core.Bool.{Bool, true, false, not, _||_, _&&_}
+use lib.ListN.{length, getD, take, drop, replicate, length-replicate, replicate-append-replicate}
+use lib.Seq.{ext-getD}
 use lib.Dec.{eqb, ltb}
 use borrow.Author.Tests.{le-ltb, ltb-false, eqb-true, not-false}
-use Rattle.definitions.specs.Sums.{sum, largest, anyAbove, firsts, pick}
-use Rattle.definitions.specs.Bytes.{big, bytesOf}
-use Rattle.definitions.specs.File.{lengthField, version, stateCount, highestMoment, toleranceField, timeField, distributions, weightField, rewardsAt, rewardField, rowAt, place, rateField}
-use Rattle.definitions.specs.Chain.{Model, modelOf, jumpRate, rowSum, uniformRate, c, maxReward, jumpMillionths}
-use Rattle.definitions.specs.Rules.{accepted, Rows, framing, fittingLength, quantities, misweighted, jumps, room, fileRows, fileJudgement}
+use Rattle.definitions.specs.Sums.{sum, largest, anyAbove, firsts}
+use Rattle.definitions.specs.Bytes.{bytesOf}
+use Rattle.definitions.specs.File.{lengthField, version, stateCount, timeField, distributions, weightField, rewardsAt}
+use Rattle.definitions.specs.Chain.{Model, modelOf, uniformRate}
+use Rattle.definitions.specs.Rules.{accepted, Rows, framing, quantities, misweighted, jumps, room, fileRows, fileJudgement}
 use Rattle.definitions.specs.Weights.{MILLION}
-use Rattle.definitions.specs.Moment.{moment, modelLevel}
-use Rattle.definitions.specs.Fields.{Fields, numbersAt, wordsOf, fieldsOf, numbersOf, fileOf}
+use Rattle.definitions.specs.Fields.{Fields, numbersAt, wordsOf, fieldsOf, fileOf}
 use Rattle.definitions.specs.Written.{fileFor}
 use Rattle.definitions.specs.Convert.{inVersion2, inVersion1, movedTo2, movedTo1, elsewhere, toVersion2, toVersion1, Moved}
 use Rattle.laws.specs.SumLaws.{sum-zero, sum-suc, sum-same, sum-constant, sum-split, any-largest, largest-le, le-largest}
 use Rattle.laws.specs.ListLaws.{length-firsts, getD-firsts}
-use Rattle.laws.specs.ByteLaws.{length-bytes}
 use Rattle.laws.specs.RuleLaws.{NoneHold, none-in-parts, none-together, all-pass, agree}
-use Rattle.laws.specs.FieldLaws.{bytes-of-big, words-first, words-append, Sized, length-rest, words-rest, Fits, length-file, version-of-file, states-of-file, highest-of-file, fields-of-file, sized-file, bytes-file, fields-fit, file-of-fields}
+use Rattle.laws.specs.WordLaws.{words-first}
+use Rattle.laws.specs.FieldLaws.{Whole, inVersion, numbers-in-version, bytes-in-version, file-of-fields, Fits, length-file}
+use Rattle.laws.specs.MovedLaws.{Carried, in-version-fits, carried}
 
 -- the bytes of so many zeros
 words-zeros : (n : ℕ) → wordsOf (replicate n 0) ≡ replicate (4 * n) 0
@@ -33,232 +32,6 @@ words-zeros zero = refl
 words-zeros (suc n) =
     let four : 4 * suc n ≡ 4 + 4 * n = omega arith in
     rw four (ap (λ (l : List ℕ). replicate 4 0 ++ l) (words-zeros n) ∙ replicate-append-replicate 4 (4 * n) 0)
-
--- bytes 3 to 12: M, R, tolerance and time
-middle-bytes : (s : List ℕ) → ((i : ℕ) → getD s i 0 < 256) → 13 ≤ length s → (stateCount s ∷ highestMoment s ∷ []) ++ (bytesOf 4 (toleranceField s) ++ bytesOf 4 (timeField s)) ≡ take 10 (drop 3 s)
-middle-bytes s low header =
-    rw (bytes-of-big 4 5 s low (omega (arith, header)), bytes-of-big 4 9 s low (omega (arith, header)))
-    (ap (λ (l : List ℕ). l ++ (take 4 (drop 5 s) ++ take 4 (drop 9 s))) (two s (omega (arith, header)))
-    ∙ ap (λ (l : List ℕ). take 2 (drop 3 s) ++ (take 4 (drop 5 s) ++ take 4 l)) (sym (drop-drop 4 5 s))
-    ∙ ap (λ (l : List ℕ). take 2 (drop 3 s) ++ l) (sym (take-add 4 4 (drop 5 s)))
-    ∙ ap (λ (l : List ℕ). take 2 (drop 3 s) ++ take 8 l) (sym (drop-drop 2 3 s))
-    ∙ sym (take-add 2 8 (drop 3 s)))
-  where
-    two : (l : List ℕ) → 5 ≤ length l → getD l 3 0 ∷ getD l 4 0 ∷ [] ≡ take 2 (drop 3 l)
-    two (a ∷ b ∷ c ∷ d ∷ e ∷ later) h = refl
-    two (a ∷ b ∷ c ∷ d ∷ []) h = absurd (omega arith)
-    two (a ∷ b ∷ c ∷ []) h = absurd (omega arith)
-    two (a ∷ b ∷ []) h = absurd (omega arith)
-    two (a ∷ []) h = absurd (omega arith)
-    two [] h = absurd (omega arith)
-
--- a number read from a later place on, and from what is left there
-big-drop : (width n k : ℕ) (l : List ℕ) → big width (drop n l) k ≡ big width l (n + k)
-unfolding big
-big-drop zero n k l = refl
-big-drop (suc width) n k l =
-    let place : n + (k + width) ≡ n + k + width = omega arith in
-    ap₂ (λ (a b : ℕ). a * 256 + b) (big-drop width n k l) (getD-drop n l (k + width) 0 ∙ ap (λ (i : ℕ). getD l i 0) place)
-
--- two lists that are alike from a place of each on hold the same numbers from there on
-shifted : (width a b k : ℕ) (l x : List ℕ) → drop a l ≡ drop b x → big width l (a + k) ≡ big width x (b + k)
-shifted width a b k l x e = sym (big-drop width a k l) ∙ ap (λ (y : List ℕ). big width y k) e ∙ big-drop width b k x
-
--- the model m with so many starting distributions, and the weights a
-abbrev withStart : Model → ℕ → (ℕ → ℕ) → Model
-withStart m d a =
-    record {
-      states = m .states;
-      highest = m .highest;
-      tolerance = m .tolerance;
-      time = m .time;
-      distributions = d;
-      start = a;
-      reward = m .reward;
-      transition = m .transition;
-    }
-
--- the fields f in version v with the weights w
-abbrev starting : Fields → ℕ → List ℕ → Fields
-starting f v w =
-    record {
-      version = v;
-      states = f .states;
-      highest = f .highest;
-      tolerance = f .tolerance;
-      time = f .time;
-      weights = w;
-      rewards = f .rewards;
-      rates = f .rates;
-    }
-
-module _ (s : List ℕ) (low : (i : ℕ) → getD s i 0 < 256) (sized : Sized s) (v : ℕ) (w : List ℕ) where
-  abbrev M : ℕ
-  M = stateCount s
-
-  abbrev f : Fields
-  f = starting (fieldsOf s) v w
-
-  numbers-count : length (numbersOf f) ≡ length w + M * M
-  numbers-count = omega (arith, length-append w (fieldsOf s .rewards ++ fieldsOf s .rates), length-rest s low sized)
-
-  words-moved : wordsOf (numbersOf f) ≡ wordsOf w ++ drop (rewardsAt s) s
-  words-moved = words-append w (fieldsOf s .rewards ++ fieldsOf s .rates) ∙ ap (λ (l : List ℕ). wordsOf w ++ l) (words-rest s low sized)
-
-  -- its bytes: the length, the version, bytes 3 to 12 as they were, the weights, and the rewards and rates as they were
-  moved-bytes : fileOf f ≡ bytesOf 2 (4 * (length w + M * M) + 11) ++ (v ∷ []) ++ take 10 (drop 3 s) ++ wordsOf w ++ drop (rewardsAt s) s
-  unfolding fileOf
-  moved-bytes =
-      ap₂ (λ (n : ℕ) (l : List ℕ). bytesOf 2 (4 * n + 11) ++ ((v ∷ f .states ∷ f .highest ∷ []) ++ (bytesOf 4 (f .tolerance) ++ (bytesOf 4 (f .time) ++ l)))) numbers-count words-moved
-      ∙ rw (← (middle-bytes s low (omega (arith, sized .size)))) (unfold fieldsOf in simp append-assoc)
-
-  -- where the new weights fit, and are as many as version v asks for, it holds its fields
-  moved-fits : stateCount s ≤ 64 → v < 256 → length w ≡ pick (eqb v 2) 1 0 * M → length w ≤ M → ((i : ℕ) → getD w i 0 < 2 ^ 32) → Fits f
-  moved-fits few small counted short inside =
-      let own = fields-fit s low sized in
-      record {
-        version-fits = small;
-        states-min = own .states-min;
-        states-fit = own .states-fit;
-        highest-fits = own .highest-fits;
-        tolerance-fits = own .tolerance-fits;
-        time-fits = own .time-fits;
-        weights-count = unfold fieldsOf in counted;
-        rewards-count = own .rewards-count;
-        rates-count = own .rates-count;
-        weights-fit = inside;
-        rewards-fit = own .rewards-fit;
-        rates-fit = own .rates-fit;
-        length-fits = omega (arith, numbers-count, short, few, mul-le-mul few few);
-      }
-
-  module _ (fits : Fits f) where
-    abbrev t : List ℕ
-    t = fileOf f
-
-    fields-moved : fieldsOf t ≡ f
-    fields-moved = fields-of-file f fits
-
-    -- from the rewards on it has the bytes of s
-    rest-same : drop (rewardsAt t) t ≡ drop (rewardsAt s) s
-    rest-same =
-        sym (words-rest t (bytes-file f fits) (sized-file f fits))
-        ∙ ap (λ (x : Fields). wordsOf (x .rewards ++ x .rates)) fields-moved
-        ∙ words-rest s low sized
-
-    states-same : stateCount t ≡ stateCount s
-    unfolding fieldsOf
-    states-same = states-of-file f
-
-    highest-same : highestMoment t ≡ highestMoment s
-    unfolding fieldsOf
-    highest-same = highest-of-file f
-
-    tolerance-same : toleranceField t ≡ toleranceField s
-    unfolding fieldsOf
-    tolerance-same = ap (λ (x : Fields). x .tolerance) fields-moved
-
-    time-same : timeField t ≡ timeField s
-    unfolding fieldsOf
-    time-same = ap (λ (x : Fields). x .time) fields-moved
-
-    reward-same : (i : ℕ) → rewardField t i ≡ rewardField s i
-    reward-same i = shifted 4 (rewardsAt t) (rewardsAt s) (4 * i) t s rest-same
-
-    rate-same : (i j : ℕ) → rateField t i j ≡ rateField s i j
-    rate-same i j =
-        ap (big 4 t) (there t)
-        ∙ shifted 4 (rewardsAt t) (rewardsAt s) (4 * stateCount t + 4 * (stateCount t - 1) * i + 4 * place i j) t s rest-same
-        ∙ ap (λ (m : ℕ). big 4 s (rewardsAt s + (4 * m + 4 * (m - 1) * i + 4 * place i j))) states-same
-        ∙ ap (big 4 s) (sym (there s))
-      where
-        there : (x : List ℕ) → rowAt x i + 4 * place i j ≡ rewardsAt x + (4 * stateCount x + 4 * (stateCount x - 1) * i + 4 * place i j)
-        there x = omega arith
-
-    -- its model is that of s, with the number of distributions of version v, and with the weights that it holds
-    model-moved : modelOf t ≡ withStart (modelOf s) (distributions t) (weightField t)
-    model-moved =
-        λ i.
-        record {
-          states = states-same i;
-          highest = highest-same i;
-          tolerance = tolerance-same i;
-          time = time-same i;
-          distributions = distributions t;
-          start = weightField t;
-          reward = λ k. reward-same k i;
-          transition = λ j k. rate-same j k i;
-        }
-
-    distributions-moved : distributions t ≡ pick (eqb v 2) 1 0
-    unfolding distributions
-    distributions-moved = rw (version-of-file f)
-
-    -- the weights that it holds are w
-    weight-moved : (i : ℕ) → i < distributions t * stateCount t → weightField t i ≡ getD w i 0
-    unfolding fieldsOf numbersAt
-    weight-moved i h = sym (getD-firsts 0 (distributions t * stateCount t) (weightField t) i h) ∙ ap (λ (x : Fields). getD (x .weights) i 0) fields-moved
-
-    -- rows 1 to 6, where version v is admitted
-    framing-moved : (a b oldest newest : ℕ) → oldest ≤ v → v ≤ newest → NoneHold (framing a b s) → NoneHold (framing oldest newest t)
-    unfolding framing
-    framing-moved a b oldest newest old new row =
-        let size = sized-file f fits in
-        (le-ltb (length t) 13 (omega (arith, size .size)), (agree (lengthField t) (length t - 2) (size .counted), (admitted, (rw states-same (row .1 .1 .1 .0), (rw highest-same (row .1 .1 .1 .1 .0), (agree (lengthField t) (fittingLength t) (omega (arith, size .size, size .counted)), tt))))))
-      where
-        admitted : (ltb (version t) oldest || ltb newest (version t)) ≡ false
-        admitted = rw (version-of-file f, le-ltb v oldest old, le-ltb newest v new) refl
-
-    -- rows 7 to 11, where its weights pass row 16
-    quantities-moved : misweighted (withStart (modelOf s) (distributions t) (weightField t)) ≡ false → NoneHold (quantities (modelOf s) []) → NoneHold (quantities (modelOf t) [])
-    unfolding quantities jumpRate rowSum
-    quantities-moved weighed row = subst (λ (m : Model). NoneHold (quantities m [])) (sym model-moved) (row .0, (row .1 .0, (weighed, row .1 .1 .1)))
-
-    -- row 12
-    jumps-moved : NoneHold (jumps (uniformRate (modelOf s)) (timeField s)) → NoneHold (jumps (uniformRate (modelOf t)) (timeField t))
-    unfolding jumpRate rowSum uniformRate
-    jumps-moved row = subst (λ (m : Model). NoneHold (jumps (uniformRate m) (m .time))) (sym model-moved) row
-
-    -- all of them
-    rows-moved : (a b oldest newest : ℕ) → oldest ≤ v → v ≤ newest → misweighted (withStart (modelOf s) (distributions t) (weightField t)) ≡ false → NoneHold (fileRows a b s) → NoneHold (fileRows oldest newest t)
-    rows-moved a b oldest newest old new weighed none =
-        let to12 = none-in-parts (framing a b s ++ quantities (modelOf s) []) (jumps (uniformRate (modelOf s)) (timeField s)) none in
-        let to11 = none-in-parts (framing a b s) (quantities (modelOf s) []) (to12 .0) in
-        none-together (framing oldest newest t ++ quantities (modelOf t) []) (jumps (uniformRate (modelOf t)) (timeField t))
-        (none-together (framing oldest newest t) (quantities (modelOf t) []) (framing-moved a b oldest newest old new (to11 .0)) (quantities-moved weighed (to11 .1)))
-        (jumps-moved (to12 .1))
-
-    -- the level, and the moments
-    level-moved : modelLevel (modelOf t) ≡ modelLevel (modelOf s)
-    unfolding modelLevel jumpMillionths jumpRate rowSum uniformRate
-    level-moved = ap modelLevel model-moved
-
-    moments-moved : (N r i : ℕ) → moment (modelOf t) N r i ≡ moment (modelOf s) N r i
-    unfolding moment jumpMillionths jumpRate rowSum uniformRate c maxReward
-    moments-moved N r i = ap (λ (m : Model). moment m N r i) model-moved
-
-    -- and moved once more
-    moved-again : (u : ℕ) (x : List ℕ) → fileOf (starting (fieldsOf t) u x) ≡ fileOf (starting (fieldsOf s) u x)
-    moved-again u x = ap (λ (y : Fields). fileOf (starting y u x)) fields-moved
-
-  -- a file with the version and the weights that it has
-  same-start : version s ≡ v → fieldsOf s .weights ≡ w → fileOf f ≡ s
-  unfolding fieldsOf
-  same-start e q = ap fileOf fields ∙ file-of-fields s low sized
-    where
-      fields : f ≡ fieldsOf s
-      fields =
-          λ i.
-          record {
-            version = sym e i;
-            states = fieldsOf s .states;
-            highest = fieldsOf s .highest;
-            tolerance = fieldsOf s .tolerance;
-            time = fieldsOf s .time;
-            weights = sym q i;
-            rewards = fieldsOf s .rewards;
-            rates = fieldsOf s .rates;
-          }
 
 -- numbers of which all but the first are 0
 sum-first : (n : ℕ) (a : ℕ → ℕ) → 1 ≤ n → ((i : ℕ) → i < n - 1 → a (i + 1) ≡ 0) → sum n a ≡ a 0
@@ -318,202 +91,219 @@ file-written table x file lent none e enough =
     ap (λ (l : List ℕ). fileFor table l lent) e
     ∙ all-pass (table ++ room (length file) lent) file (none-together table (room (length file) lent) none (le-ltb lent (length file) enough, tt))
 
--- how many distributions a version has
-none-in-1 : (s : List ℕ) → version s ≡ 1 → distributions s ≡ 0
-unfolding distributions
-none-in-1 s e = rw e refl
+module _ (s : List ℕ) (whole : Whole s) (few : stateCount s ≤ 64) where
+  abbrev M : ℕ
+  M = stateCount s
 
-one-in-2 : (s : List ℕ) → version s ≡ 2 → distributions s ≡ 1
-unfolding distributions
-one-in-2 s e = rw e refl
+  -- a file with the version and the weights that it has is itself
+  same-start : (v : ℕ) (w : List ℕ) → version s ≡ v → fieldsOf s .weights ≡ w → fileOf (inVersion v w (fieldsOf s)) ≡ s
+  unfolding fieldsOf
+  same-start v w e q = ap fileOf fields ∙ file-of-fields s whole
+    where
+      fields : inVersion v w (fieldsOf s) ≡ fieldsOf s
+      fields =
+          λ i.
+          record {
+            version = sym e i;
+            states = fieldsOf s .states;
+            highest = fieldsOf s .highest;
+            tolerance = fieldsOf s .tolerance;
+            time = fieldsOf s .time;
+            weights = sym q i;
+            rewards = fieldsOf s .rewards;
+            rates = fieldsOf s .rates;
+          }
 
-module _ (s : List ℕ) (low : (i : ℕ) → getD s i 0 < 256) (sized : Sized s) (few : stateCount s ≤ 64) where
-  -- in version 2
-  with-first : movedTo2 s ≡ fileOf (starting (fieldsOf s) 2 (onFirst (stateCount s)))
-  unfolding inVersion2 fieldsOf
-  with-first = refl
-
-  fits2 : Fits (starting (fieldsOf s) 2 (onFirst (stateCount s)))
-  fits2 =
-      let count = first-count (stateCount s) (sized .states-min) in
-      moved-fits s low sized 2 (onFirst (stateCount s)) few (omega arith) (omega (arith, count)) (omega (arith, count)) (first-fits (stateCount s))
-
-  weight-on : (i : ℕ) → i < stateCount s → weightField (fileOf (starting (fieldsOf s) 2 (onFirst (stateCount s)))) i ≡ getD (onFirst (stateCount s)) i 0
-  weight-on i h =
-      weight-moved s low sized 2 (onFirst (stateCount s)) fits2 i
-      (omega (arith, h, ap₂ _*_ (distributions-moved s low sized 2 (onFirst (stateCount s)) fits2) (states-same s low sized 2 (onFirst (stateCount s)) fits2)))
-
-  -- in version 1
-  without-weights : movedTo1 s ≡ fileOf (starting (fieldsOf s) 1 [])
-  unfolding inVersion1
-  without-weights = refl
-
-  fits1 : Fits (starting (fieldsOf s) 1 [])
-  fits1 = moved-fits s low sized 1 [] few (omega arith) (omega arith) (omega arith) (λ i. omega arith)
-
+  -- a version 1 file, moved to version 2
   module _ (is-1 : version s ≡ 1) where
+    -- it has no weights of its own
+    no-distribution : distributions s ≡ 0
+    unfolding distributions
+    no-distribution = rw is-1 refl
+
+    none-held : distributions s * M ≡ 0
+    none-held = ap (λ (d : ℕ). d * M) no-distribution ∙ omega arith
+
+    weights-1 : fieldsOf s .weights ≡ []
+    unfolding fieldsOf numbersAt firsts
+    weights-1 = rw none-held refl
+
+    -- the moved file
     abbrev there : List ℕ
-    there = fileOf (starting (fieldsOf s) 2 (onFirst (stateCount s)))
+    there = fileOf (inVersion 2 (onFirst M) (fieldsOf s))
 
-    -- the length field that a version 1 file has
-    counted-1 : lengthField s ≡ 4 * (stateCount s * stateCount s) + 11
-    counted-1 = omega (arith, sized .size, sized .counted, ap (λ (d : ℕ). d * stateCount s) (none-in-1 s is-1))
+    is-there : movedTo2 s ≡ there
+    unfolding inVersion2 fieldsOf
+    is-there = refl
 
-    rewards-1 : rewardsAt s ≡ 13
-    rewards-1 = omega (arith, ap (λ (d : ℕ). d * stateCount s) (none-in-1 s is-1))
+    first-of-all : length (onFirst M) ≡ M
+    first-of-all = first-count M (whole .states-min)
 
-    -- the bytes of a version 1 file moved to version 2
-    pub bytes-there : movedTo2 s ≡ bytesOf 2 (lengthField s + 4 * stateCount s) ++ (2 ∷ []) ++ take 10 (drop 3 s) ++ bytesOf 4 1000000 ++ replicate (4 * (stateCount s - 1)) 0 ++ drop 13 s
+    fits-there : Fits (inVersion 2 (onFirst M) (fieldsOf s))
+    fits-there = in-version-fits s whole 2 (onFirst M) few (omega arith) (omega (arith, first-of-all)) (omega (arith, first-of-all)) (first-fits M)
+
+    told-there : Carried s there 2 (onFirst M)
+    told-there = carried s whole 2 (onFirst M) fits-there
+
+    pub length-there : length (movedTo2 s) ≡ length s + 4 * M
+    length-there = ap (length {A = ℕ}) is-there ∙ omega (arith, length-file (inVersion 2 (onFirst M) (fieldsOf s)), numbers-in-version s whole 2 (onFirst M), first-of-all, whole .size, none-held)
+
+    -- its bytes: the new length, the version, bytes 3 to 12 as they were, the weights, and the rest as it was
+    pub bytes-there : movedTo2 s ≡ bytesOf 2 (lengthField s + 4 * M) ++ (2 ∷ []) ++ take 10 (drop 3 s) ++ bytesOf 4 1000000 ++ replicate (4 * (M - 1)) 0 ++ drop 13 s
     bytes-there =
-        with-first
-        ∙ moved-bytes s low sized 2 (onFirst (stateCount s))
-        ∙ ap₂ (λ (n k : ℕ). bytesOf 2 n ++ (2 ∷ []) ++ take 10 (drop 3 s) ++ wordsOf (onFirst (stateCount s)) ++ drop k s) same-length rewards-1
-        ∙ ap (λ (l : List ℕ). before ++ l ++ drop 13 s) words
-        ∙ ap (λ (l : List ℕ). l ++ drop 13 s) (sym (append-assoc before (bytesOf 4 1000000) (replicate (4 * (stateCount s - 1)) 0)))
+        is-there
+        ∙ bytes-in-version s whole 2 (onFirst M)
+        ∙ ap₂ (λ (n k : ℕ). bytesOf 2 n ++ (2 ∷ []) ++ take 10 (drop 3 s) ++ wordsOf (onFirst M) ++ drop k s) longer rewards-first
+        ∙ ap (λ (l : List ℕ). before ++ l ++ drop 13 s) (words-first MILLION (replicate (M - 1) 0) ∙ ap (λ (l : List ℕ). bytesOf 4 1000000 ++ l) (words-zeros (M - 1)))
+        ∙ ap (λ (l : List ℕ). l ++ drop 13 s) (sym (append-assoc before (bytesOf 4 1000000) (replicate (4 * (M - 1)) 0)))
       where
         before : List ℕ
-        before = bytesOf 2 (lengthField s + 4 * stateCount s) ++ (2 ∷ []) ++ take 10 (drop 3 s)
+        before = bytesOf 2 (lengthField s + 4 * M) ++ (2 ∷ []) ++ take 10 (drop 3 s)
 
-        same-length : 4 * (length (onFirst (stateCount s)) + stateCount s * stateCount s) + 11 ≡ lengthField s + 4 * stateCount s
-        same-length = omega (arith, counted-1, first-count (stateCount s) (sized .states-min))
+        rewards-first : rewardsAt s ≡ 13
+        rewards-first = omega (arith, none-held)
 
-        words : wordsOf (onFirst (stateCount s)) ≡ bytesOf 4 1000000 ++ replicate (4 * (stateCount s - 1)) 0
-        words = words-first MILLION (replicate (stateCount s - 1) 0) ∙ ap (λ (l : List ℕ). bytesOf 4 1000000 ++ l) (words-zeros (stateCount s - 1))
-
-    pub length-there : length (movedTo2 s) ≡ length s + 4 * stateCount s
-    length-there = ap (length {A = ℕ}) with-first ∙ omega (arith, length-file (starting (fieldsOf s) 2 (onFirst (stateCount s))), numbers-count s low sized 2 (onFirst (stateCount s)), first-count (stateCount s) (sized .states-min), sized .size, ap (λ (d : ℕ). d * stateCount s) (none-in-1 s is-1))
+        longer : 4 * (length (onFirst M) + M * M) + 11 ≡ lengthField s + 4 * M
+        longer = omega (arith, first-of-all, whole .size, whole .counted, none-held)
 
     -- its weights
-    distributions-there : distributions there ≡ 1
-    distributions-there = distributions-moved s low sized 2 (onFirst (stateCount s)) fits2
+    weight-there : (i : ℕ) → i < M → weightField there i ≡ getD (onFirst M) i 0
+    weight-there i h = told-there .weights i (omega (arith, h, ap₂ _*_ (told-there .distributed) (told-there .states)))
 
-    weighed-there : misweighted (withStart (modelOf s) (distributions there) (weightField there)) ≡ false
+    weight-later : (i : ℕ) → i < M - 1 → weightField there (i + 1) ≡ 0
+    weight-later i h = weight-there (i + 1) (omega arith) ∙ first-later M i
+
+    weighed-there : misweighted (modelOf there) ≡ false
     weighed-there =
-        well-weighted (withStart (modelOf s) (distributions there) (weightField there))
-        (sum-first (stateCount s) (weightField there) (sized .states-min) (λ i h. weight-on (i + 1) (omega arith) ∙ first-later (stateCount s) i)
-        ∙ weight-on 0 (sized .states-min))
+        well-weighted (modelOf there)
+        (ap (λ (n : ℕ). sum n (weightField there)) (told-there .states)
+        ∙ sum-first M (weightField there) (whole .states-min) weight-later
+        ∙ weight-there 0 (whole .states-min))
 
     none-elsewhere : NoneHold (elsewhere (modelOf there))
     unfolding elsewhere
-    none-elsewhere =
-        (none-found (stateCount there - 1) (λ i. weightField there (i + 1)) (λ i h. weight-on (i + 1) (omega (arith, h, states-same s low sized 2 (onFirst (stateCount s)) fits2)) ∙ first-later (stateCount s) i), tt)
+    none-elsewhere = (none-found (stateCount there - 1) (λ i. weightField there (i + 1)) (λ i h. weight-later i (omega (arith, h, told-there .states))), tt)
 
-    -- it has no weights of its own
-    weights-1 : fieldsOf s .weights ≡ []
-    unfolding fieldsOf numbersAt firsts
-    weights-1 = let none : distributions s * stateCount s ≡ 0 = ap (λ (d : ℕ). d * stateCount s) (none-in-1 s is-1) ∙ omega arith in rw none refl
-
-    -- and back
-    pub there-back : movedTo1 (movedTo2 s) ≡ s
+    -- moved back it is s
+    pub there-and-back : movedTo1 (movedTo2 s) ≡ s
     unfolding inVersion1
-    there-back =
-        ap movedTo1 with-first
-        ∙ moved-again s low sized 2 (onFirst (stateCount s)) fits2 1 []
-        ∙ same-start s low sized 1 [] is-1 weights-1
+    there-and-back =
+        ap movedTo1 is-there
+        ∙ ap (λ (x : Fields). fileOf (inVersion 1 [] x)) (told-there .fields)
+        ∙ same-start 1 [] is-1 weights-1
 
-    -- which the call back returns
-    back-there : NoneHold (fileRows 1 1 s) → (lent : ℕ) → length s ≤ lent → toVersion1 there lent ≡ accepted s
-    unfolding toVersion1
-    back-there none lent enough =
-        file-written (fileRows 2 2 there ++ elsewhere (modelOf there)) (movedTo1 there) s lent
-        (none-together (fileRows 2 2 there) (elsewhere (modelOf there)) (rows-moved s low sized 2 (onFirst (stateCount s)) fits2 1 1 2 2 (omega arith) (omega arith) weighed-there none) none-elsewhere)
-        (sym (ap movedTo1 with-first) ∙ there-back)
-        enough
+    module _ (none : NoneHold (fileRows 1 1 s)) where
+      returned-there : (lent : ℕ) → length s ≤ lent → toVersion1 there lent ≡ accepted s
+      unfolding toVersion1
+      returned-there lent enough =
+          file-written (fileRows 2 2 there ++ elsewhere (modelOf there)) (movedTo1 there) s lent
+          (none-together (fileRows 2 2 there) (elsewhere (modelOf there)) (told-there .rows 1 1 2 2 (omega arith) (omega arith) weighed-there none) none-elsewhere)
+          (sym (ap movedTo1 is-there) ∙ there-and-back)
+          enough
 
-    -- of a file that the move accepts
-    moved-there : NoneHold (fileRows 1 1 s) → Moved s there toVersion1
-    moved-there none =
-        record {
-          accepts = unfold fileJudgement in all-pass (fileRows 1 2 there) tt (rows-moved s low sized 2 (onFirst (stateCount s)) fits2 1 1 1 2 (omega arith) (omega arith) weighed-there none);
-          same-level = level-moved s low sized 2 (onFirst (stateCount s)) fits2;
-          same-moments = moments-moved s low sized 2 (onFirst (stateCount s)) fits2;
-          returns = back-there none;
-        }
+      moved-there : Moved s there toVersion1
+      moved-there =
+          record {
+            accepts = unfold fileJudgement in all-pass (fileRows 1 2 there) tt (told-there .rows 1 1 1 2 (omega arith) (omega arith) weighed-there none);
+            same-level = told-there .level;
+            same-moments = told-there .moments;
+            returns = returned-there;
+          }
 
+  -- a version 2 file, moved to version 1
   module _ (is-2 : version s ≡ 2) where
+    -- it has one weight for each state
+    one-held : distributions s ≡ 1
+    unfolding distributions
+    one-held = rw is-2 refl
+
+    all-held : distributions s * M ≡ M
+    all-held = ap (λ (d : ℕ). d * M) one-held ∙ omega arith
+
+    -- the moved file
     abbrev back : List ℕ
-    back = fileOf (starting (fieldsOf s) 1 [])
+    back = fileOf (inVersion 1 [] (fieldsOf s))
 
-    -- the length field that a version 2 file has
-    counted-2 : lengthField s ≡ 4 * (stateCount s * stateCount s) + 4 * stateCount s + 11
-    counted-2 = omega (arith, sized .size, sized .counted, ap (λ (d : ℕ). d * stateCount s) (one-in-2 s is-2))
+    is-back : movedTo1 s ≡ back
+    unfolding inVersion1
+    is-back = refl
 
-    rewards-2 : rewardsAt s ≡ 13 + 4 * stateCount s
-    rewards-2 = omega (arith, ap (λ (d : ℕ). d * stateCount s) (one-in-2 s is-2))
+    fits-back : Fits (inVersion 1 [] (fieldsOf s))
+    fits-back = in-version-fits s whole 1 [] few (omega arith) (omega arith) (omega arith) (λ i. omega arith)
 
-    -- the bytes of a version 2 file moved to version 1
-    pub bytes-back : movedTo1 s ≡ bytesOf 2 (lengthField s - 4 * stateCount s) ++ (1 ∷ []) ++ take 10 (drop 3 s) ++ drop (13 + 4 * stateCount s) s
+    told-back : Carried s back 1 []
+    told-back = carried s whole 1 [] fits-back
+
+    pub length-back : length (movedTo1 s) + 4 * M ≡ length s
+    length-back = ap (λ (l : List ℕ). length l + 4 * M) is-back ∙ omega (arith, length-file (inVersion 1 [] (fieldsOf s)), numbers-in-version s whole 1 [], whole .size, all-held)
+
+    -- its bytes: the new length, the version, bytes 3 to 12 as they were, and what follows the weights as it was
+    pub bytes-back : movedTo1 s ≡ bytesOf 2 (lengthField s - 4 * M) ++ (1 ∷ []) ++ take 10 (drop 3 s) ++ drop (13 + 4 * M) s
     bytes-back =
-        without-weights
-        ∙ moved-bytes s low sized 1 []
-        ∙ ap₂ (λ (n k : ℕ). bytesOf 2 n ++ (1 ∷ []) ++ take 10 (drop 3 s) ++ wordsOf [] ++ drop k s) same-length rewards-2
-        ∙ ap (λ (l : List ℕ). before ++ l ++ drop (13 + 4 * stateCount s) s) no-words
-        ∙ ap (λ (l : List ℕ). l ++ drop (13 + 4 * stateCount s) s) (append-nil before)
+        is-back
+        ∙ bytes-in-version s whole 1 []
+        ∙ ap₂ (λ (n k : ℕ). bytesOf 2 n ++ (1 ∷ []) ++ take 10 (drop 3 s) ++ wordsOf [] ++ drop k s) shorter rewards-later
+        ∙ ap (λ (l : List ℕ). before ++ l ++ drop (13 + 4 * M) s) no-words
+        ∙ ap (λ (l : List ℕ). l ++ drop (13 + 4 * M) s) (append-nil before)
       where
         before : List ℕ
-        before = bytesOf 2 (lengthField s - 4 * stateCount s) ++ (1 ∷ []) ++ take 10 (drop 3 s)
+        before = bytesOf 2 (lengthField s - 4 * M) ++ (1 ∷ []) ++ take 10 (drop 3 s)
 
-        same-length : 4 * (0 + stateCount s * stateCount s) + 11 ≡ lengthField s - 4 * stateCount s
-        same-length = omega (arith, counted-2)
+        rewards-later : rewardsAt s ≡ 13 + 4 * M
+        rewards-later = omega (arith, all-held)
+
+        shorter : 4 * (0 + M * M) + 11 ≡ lengthField s - 4 * M
+        shorter = omega (arith, whole .size, whole .counted, all-held)
 
         no-words : wordsOf [] ≡ []
         no-words = unfold wordsOf in refl
 
-    pub length-back : length (movedTo1 s) + 4 * stateCount s ≡ length s
-    length-back = ap (λ (l : List ℕ). length l + 4 * stateCount s) without-weights ∙ omega (arith, length-file (starting (fieldsOf s) 1 []), numbers-count s low sized 1 [], sized .size, ap (λ (d : ℕ). d * stateCount s) (one-in-2 s is-2))
-
     -- it has no distribution
-    weighed-back : misweighted (withStart (modelOf s) (distributions back) (weightField back)) ≡ false
-    weighed-back = unweighted (withStart (modelOf s) (distributions back) (weightField back)) (distributions-moved s low sized 1 [] fits1)
+    weighed-back : misweighted (modelOf back) ≡ false
+    weighed-back = unweighted (modelOf back) (told-back .distributed)
 
     module _ (none : NoneHold (fileRows 2 2 s)) (first : NoneHold (elsewhere (modelOf s))) where
-      -- row 16
-      sum-2 : sum (stateCount s) (weightField s) ≡ 1000000
+      -- row 16: the weights of s sum to 1,000,000
+      sum-2 : sum M (weightField s) ≡ 1000000
       unfolding quantities
       sum-2 =
           let to12 = none-in-parts (framing 2 2 s ++ quantities (modelOf s) []) (jumps (uniformRate (modelOf s)) (timeField s)) none in
           let to11 = none-in-parts (framing 2 2 s) (quantities (modelOf s) []) (to12 .0) in
-          weights-sum (modelOf s) (one-in-2 s is-2) (to11 .1 .1 .1 .0)
+          weights-sum (modelOf s) one-held (to11 .1 .1 .1 .0)
 
-      -- row 17
-      zero-later : (i : ℕ) → i < stateCount s - 1 → weightField s (i + 1) ≡ 0
+      -- row 17: those of the later states are 0
+      zero-later : (i : ℕ) → i < M - 1 → weightField s (i + 1) ≡ 0
       unfolding elsewhere
-      zero-later = all-zero (stateCount s - 1) (λ i. weightField s (i + 1)) (first .0)
+      zero-later = all-zero (M - 1) (λ i. weightField s (i + 1)) (first .0)
 
-      million-first : weightField s 0 ≡ 1000000
-      million-first = sym (sum-first (stateCount s) (weightField s) (sized .states-min) zero-later) ∙ sum-2
+      -- so they are 1,000,000 and then zeros
+      weight-is : (i : ℕ) → i < M → weightField s i ≡ getD (onFirst M) i 0
+      weight-is zero h = sym (sum-first M (weightField s) (whole .states-min) zero-later) ∙ sum-2
+      weight-is (suc i) h = ap (weightField s) (sym (add-one i)) ∙ zero-later i (omega arith) ∙ sym (getD-zeros (M - 1) i)
 
-      -- so its weights are 1,000,000 and then zeros
-      weight-is : (i : ℕ) → i < stateCount s → weightField s i ≡ getD (onFirst (stateCount s)) i 0
-      weight-is zero h = million-first
-      weight-is (suc i) h = ap (weightField s) (sym (add-one i)) ∙ zero-later i (omega arith) ∙ sym (getD-zeros (stateCount s - 1) i)
-
-      weights-2 : fieldsOf s .weights ≡ onFirst (stateCount s)
+      weights-2 : fieldsOf s .weights ≡ onFirst M
       unfolding fieldsOf numbersAt
       weights-2 =
-          let all : distributions s * stateCount s ≡ stateCount s = ap (λ (d : ℕ). d * stateCount s) (one-in-2 s is-2) ∙ omega arith in
-          ap (λ (n : ℕ). firsts n (weightField s)) all
-          ∙ ext-getD 0 (firsts (stateCount s) (weightField s)) (onFirst (stateCount s)) (length-firsts (stateCount s) (weightField s) ∙ sym (first-count (stateCount s) (sized .states-min)))
-          (λ i h. let inside : i < stateCount s = omega (arith, h, length-firsts (stateCount s) (weightField s)) in getD-firsts 0 (stateCount s) (weightField s) i inside ∙ weight-is i inside)
+          ap (λ (n : ℕ). firsts n (weightField s)) all-held
+          ∙ ext-getD 0 (firsts M (weightField s)) (onFirst M) (length-firsts M (weightField s) ∙ sym (first-count M (whole .states-min)))
+          (λ i h. let inside : i < M = omega (arith, h, length-firsts M (weightField s)) in getD-firsts 0 M (weightField s) i inside ∙ weight-is i inside)
 
-      -- and back
-      pub back-there-again : movedTo2 (movedTo1 s) ≡ s
+      -- moved back it is s
+      pub back-and-there : movedTo2 (movedTo1 s) ≡ s
       unfolding inVersion1 inVersion2 fieldsOf
-      back-there-again = ap (λ (x : Fields). fileOf (inVersion2 x)) (fields-moved s low sized 1 [] fits1) ∙ same-start s low sized 2 (onFirst (stateCount s)) is-2 weights-2
+      back-and-there = ap (λ (x : Fields). fileOf (inVersion2 x)) (told-back .fields) ∙ same-start 2 (onFirst M) is-2 weights-2
 
-      -- which the call back returns
-      returns-there : (lent : ℕ) → length s ≤ lent → toVersion2 back lent ≡ accepted s
+      returned-back : (lent : ℕ) → length s ≤ lent → toVersion2 back lent ≡ accepted s
       unfolding toVersion2
-      returns-there lent enough =
-          file-written (fileRows 1 1 back) (movedTo2 back) s lent (rows-moved s low sized 1 [] fits1 2 2 1 1 (omega arith) (omega arith) weighed-back none)
-          (sym (ap movedTo2 without-weights) ∙ back-there-again) enough
+      returned-back lent enough =
+          file-written (fileRows 1 1 back) (movedTo2 back) s lent (told-back .rows 2 2 1 1 (omega arith) (omega arith) weighed-back none)
+          (sym (ap movedTo2 is-back) ∙ back-and-there) enough
 
-      -- of a file that the move accepts
       moved-back : Moved s back toVersion2
       moved-back =
           record {
-            accepts = unfold fileJudgement in all-pass (fileRows 1 2 back) tt (rows-moved s low sized 1 [] fits1 2 2 1 2 (omega arith) (omega arith) weighed-back none);
-            same-level = level-moved s low sized 1 [] fits1;
-            same-moments = moments-moved s low sized 1 [] fits1;
-            returns = returns-there;
+            accepts = unfold fileJudgement in all-pass (fileRows 1 2 back) tt (told-back .rows 2 2 1 2 (omega arith) (omega arith) weighed-back none);
+            same-level = told-back .level;
+            same-moments = told-back .moments;
+            returns = returned-back;
           }

@@ -5,6 +5,7 @@ pub mod SumLaws
 pub mod ListLaws
 pub mod ByteLaws
 pub mod BlockLaws
+pub mod WordLaws
 pub mod FieldLaws
 pub mod ChainLaws
 pub mod ArrayLaws
@@ -24,4 +25,5 @@ pub mod StartLaws
 pub mod Demand3
 pub mod SeriesLaws
 pub mod RemainderLaws
+pub mod MovedLaws
 pub mod ConvertLaws
