@@ -13,7 +13,7 @@ use Rattle.definitions.specs.Sums.{sum, largest, anyAbove, firsts}
 use Rattle.definitions.specs.Bytes.{bytesOf}
 use Rattle.definitions.specs.File.{lengthField, version, stateCount, timeField, distributions, weightField, rewardsAt}
 use Rattle.definitions.specs.Chain.{Model, modelOf, uniformRate}
-use Rattle.definitions.specs.Rules.{accepted, Rows, framing, quantities, misweighted, jumps, room, fileRows, fileJudgement}
+use Rattle.definitions.specs.Rules.{accepted, refused, Rows, framing, quantities, misweighted, jumps, fileRows, judgedBy, fileJudgement}
 use Rattle.definitions.specs.Weights.{MILLION}
 use Rattle.definitions.specs.Fields.{Fields, numbersAt, wordsOf, fieldsOf, fileOf}
 use Rattle.definitions.specs.Written.{fileFor}
@@ -21,6 +21,7 @@ use Rattle.definitions.specs.Convert.{inVersion2, inVersion1, movedTo2, movedTo
 use Rattle.laws.specs.SumLaws.{sum-zero, sum-suc, sum-same, sum-constant, sum-split, any-largest, largest-le, le-largest}
 use Rattle.laws.specs.ListLaws.{length-firsts, getD-firsts}
 use Rattle.laws.specs.RuleLaws.{NoneHold, none-in-parts, none-together, all-pass, agree}
+use Rattle.laws.specs.WrittenLaws.{stopped-by-table, is-written, was-written}
 use Rattle.laws.specs.WordLaws.{words-first}
 use Rattle.laws.specs.FieldLaws.{Whole, inVersion, numbers-in-version, bytes-in-version, file-of-fields, Fits, length-file}
 use Rattle.laws.specs.MovedLaws.{Carried, in-version-fits, carried}
@@ -83,13 +84,6 @@ weights-sum : (m : Model) → m .distributions ≡ 1 → misweighted m ≡ false
 weights-sum m e h =
     let tested : (ltb 0 1 && not (eqb (sum (m .states) (m .start)) 1000000)) ≡ false = rw e at h in
     eqb-true (sum (m .states) (m .start)) 1000000 (not-false (eqb (sum (m .states) (m .start)) 1000000) tested)
-
--- a file for which no row holds is written, where the bytes that are lent are enough
-file-written : (table : Rows) (x file : List ℕ) (lent : ℕ) → NoneHold table → x ≡ file → length file ≤ lent → fileFor table x lent ≡ accepted file
-unfolding fileFor room
-file-written table x file lent none e enough =
-    ap (λ (l : List ℕ). fileFor table l lent) e
-    ∙ all-pass (table ++ room (length file) lent) file (none-together table (room (length file) lent) none (le-ltb lent (length file) enough, tt))
 
 module _ (s : List ℕ) (whole : Whole s) (few : stateCount s ≤ 64) where
   abbrev M : ℕ
@@ -196,10 +190,9 @@ module _ (s : List ℕ) (whole : Whole s) (few : stateCount s ≤ 64) where
       returned-there : (lent : ℕ) → length s ≤ lent → toVersion1 there lent ≡ accepted s
       unfolding toVersion1
       returned-there lent enough =
-          file-written (fileRows 2 2 there ++ elsewhere (modelOf there)) (movedTo1 there) s lent
-          (none-together (fileRows 2 2 there) (elsewhere (modelOf there)) (told-there .rows 1 1 2 2 (omega arith) (omega arith) weighed-there none) none-elsewhere)
-          (sym (ap movedTo1 is-there) ∙ there-and-back)
-          enough
+          let table : Rows = fileRows 2 2 there ++ elsewhere (modelOf there) in
+          let passed : NoneHold table = none-together (fileRows 2 2 there) (elsewhere (modelOf there)) (told-there .rows 1 1 2 2 (omega arith) (omega arith) weighed-there none) none-elsewhere in
+          ap (λ (x : List ℕ). fileFor table x lent) (sym (ap movedTo1 is-there) ∙ there-and-back) ∙ is-written table s lent (all-pass table tt passed) enough
 
       moved-there : Moved s there toVersion1
       moved-there =
@@ -296,8 +289,8 @@ module _ (s : List ℕ) (whole : Whole s) (few : stateCount s ≤ 64) where
       returned-back : (lent : ℕ) → length s ≤ lent → toVersion2 back lent ≡ accepted s
       unfolding toVersion2
       returned-back lent enough =
-          file-written (fileRows 1 1 back) (movedTo2 back) s lent (told-back .rows 2 2 1 1 (omega arith) (omega arith) weighed-back none)
-          (sym (ap movedTo2 is-back) ∙ back-and-there) enough
+          let passed : NoneHold (fileRows 1 1 back) = told-back .rows 2 2 1 1 (omega arith) (omega arith) weighed-back none in
+          ap (λ (x : List ℕ). fileFor (fileRows 1 1 back) x lent) (sym (ap movedTo2 is-back) ∙ back-and-there) ∙ is-written (fileRows 1 1 back) s lent (all-pass (fileRows 1 1 back) tt passed) enough
 
       moved-back : Moved s back toVersion2
       moved-back =

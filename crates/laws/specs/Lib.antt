@@ -25,5 +25,6 @@ pub mod StartLaws
 pub mod Demand3
 pub mod SeriesLaws
 pub mod RemainderLaws
+pub mod WrittenLaws
 pub mod MovedLaws
 pub mod ConvertLaws
