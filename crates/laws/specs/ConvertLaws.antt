@@ -3,28 +3,30 @@ use Prim.Native.Nat.{ℕ, zero, suc, _+_, _*_, _-_, _≤_, _<_, _^_}
 use native.Mathlib.Omega.{arith}
 use native.Mathlib.Numerals.{add-one}
 use mathlib.Core.Path.{_≡_, refl, sym, _∙_, ap, ap₂, subst}
-use mathlib.Core.Bool.{Bool, true, false, not, _&&_}
+use mathlib.Core.Bool.{false}
 use mathlib.Core.List.{List, [], _∷_, _++_, append-assoc, append-nil}
 use lib.ListN.{length, getD, take, drop, replicate, length-replicate, replicate-append-replicate}
 use lib.Seq.{ext-getD}
-use lib.Dec.{eqb, ltb}
-use borrow.Author.Tests.{le-ltb, ltb-false, eqb-true, not-false}
+use borrow.Author.Tests.{le-ltb, ltb-false}
 use Rattle.definitions.specs.Sums.{sum, largest, anyAbove, firsts}
 use Rattle.definitions.specs.Bytes.{bytesOf}
-use Rattle.definitions.specs.File.{lengthField, version, stateCount, timeField, distributions, weightField, rewardsAt}
-use Rattle.definitions.specs.Chain.{Model, modelOf, uniformRate}
-use Rattle.definitions.specs.Rules.{accepted, refused, Rows, framing, quantities, misweighted, jumps, fileRows, judgedBy, fileJudgement}
+use Rattle.definitions.specs.File.{lengthField, version, stateCount, distributions, weightField, rewardsAt}
+use Rattle.definitions.specs.Chain.{modelOf}
+use Rattle.definitions.specs.Rules.{Answer, accepted, refused, Rows, misweighted, fileRows, fileJudgement}
 use Rattle.definitions.specs.Weights.{MILLION}
 use Rattle.definitions.specs.Fields.{Fields, numbersAt, wordsOf, fieldsOf, fileOf}
 use Rattle.definitions.specs.Written.{fileFor}
-use Rattle.definitions.specs.Convert.{inVersion2, inVersion1, movedTo2, movedTo1, elsewhere, toVersion2, toVersion1, Moved}
+use Rattle.definitions.specs.Convert.{inVersion2, inVersion1, movedTo2, movedTo1, elsewhere, toVersion2, toVersion1, Moved, ThereAndBack}
 use Rattle.laws.specs.SumLaws.{sum-zero, sum-suc, sum-same, sum-constant, sum-split, any-largest, largest-le, le-largest}
 use Rattle.laws.specs.ListLaws.{length-firsts, getD-firsts}
-use Rattle.laws.specs.RuleLaws.{NoneHold, none-in-parts, none-together, all-pass, agree}
-use Rattle.laws.specs.WrittenLaws.{stopped-by-table, is-written, was-written}
+use Rattle.laws.specs.RuleLaws.{NoneHold, none-hold, none-in-parts, none-together, all-pass, agree}
+use Rattle.laws.specs.RowLaws.{no-start, with-start}
+use Rattle.laws.specs.ChainLaws.{version-2, other-version}
+use Rattle.laws.specs.Acceptance.{accepted-model}
+use Rattle.laws.specs.WrittenLaws.{is-written, was-written}
 use Rattle.laws.specs.WordLaws.{words-first}
 use Rattle.laws.specs.FieldLaws.{Whole, inVersion, numbers-in-version, bytes-in-version, file-of-fields, Fits, length-file}
-use Rattle.laws.specs.MovedLaws.{Carried, in-version-fits, carried}
+use Rattle.laws.specs.MovedLaws.{withStart, Carried, in-version-fits, carried}
 
 -- the bytes of so many zeros
 words-zeros : (n : ℕ) → wordsOf (replicate n 0) ≡ replicate (4 * n) 0
@@ -68,31 +70,27 @@ first-fits n (suc i) = omega (arith, getD-zeros (n - 1) i)
 first-later : (n i : ℕ) → getD (onFirst n) (i + 1) 0 ≡ 0
 first-later n i = ap (λ (k : ℕ). getD (onFirst n) k 0) (add-one i) ∙ getD-zeros (n - 1) i
 
--- row 16 passes where there is no starting distribution, and where the weights sum to 1,000,000
-unweighted : (m : Model) → m .distributions ≡ 0 → misweighted m ≡ false
-unweighted m e = rw e refl
-
-well-weighted : (m : Model) → sum (m .states) (m .start) ≡ 1000000 → misweighted m ≡ false
-well-weighted m e = ap (λ (b : Bool). ltb 0 (m .distributions) && b) (agree (sum (m .states) (m .start)) 1000000 e) ∙ neither-way (ltb 0 (m .distributions))
-  where
-    neither-way : (b : Bool) → (b && false) ≡ false
-    neither-way true = refl
-    neither-way false = refl
-
--- and where it passes with a distribution they do
-weights-sum : (m : Model) → m .distributions ≡ 1 → misweighted m ≡ false → sum (m .states) (m .start) ≡ 1000000
-weights-sum m e h =
-    let tested : (ltb 0 1 && not (eqb (sum (m .states) (m .start)) 1000000)) ≡ false = rw e at h in
-    eqb-true (sum (m .states) (m .start)) 1000000 (not-false (eqb (sum (m .states) (m .start)) 1000000) tested)
-
-module _ (s : List ℕ) (whole : Whole s) (few : stateCount s ≤ 64) where
+module _ (s : List ℕ) (bytes : (i : ℕ) → getD s i 0 < 256) where
   abbrev M : ℕ
   M = stateCount s
 
+  -- a file that is accepted is whole
+  whole-by : (v : ℕ) → fileJudgement v v s ≡ accepted tt → Whole s
+  whole-by v passed =
+      let told = accepted-model v v s passed in
+      record { bytes = bytes; states-min = told .framed .states-min; size = told .framed .size; counted = told .counted }
+
+  version-is : (v : ℕ) → fileJudgement v v s ≡ accepted tt → version s ≡ v
+  version-is v passed = let told = accepted-model v v s passed in omega (arith, told .oldest, told .newest)
+
+  none-by : (v : ℕ) → fileJudgement v v s ≡ accepted tt → NoneHold (fileRows v v s)
+  unfolding fileJudgement
+  none-by v passed = none-hold (fileRows v v s) (tt {0}) tt passed
+
   -- a file with the version and the weights that it has is itself
-  same-start : (v : ℕ) (w : List ℕ) → version s ≡ v → fieldsOf s .weights ≡ w → fileOf (inVersion v w (fieldsOf s)) ≡ s
+  same-start : (v : ℕ) (w : List ℕ) → Whole s → version s ≡ v → fieldsOf s .weights ≡ w → fileOf (inVersion v w (fieldsOf s)) ≡ s
   unfolding fieldsOf
-  same-start v w e q = ap fileOf fields ∙ file-of-fields s whole
+  same-start v w whole e q = ap fileOf fields ∙ file-of-fields s whole
     where
       fields : inVersion v w (fieldsOf s) ≡ fieldsOf s
       fields =
@@ -109,14 +107,19 @@ module _ (s : List ℕ) (whole : Whole s) (few : stateCount s ≤ 64) where
           }
 
   -- a version 1 file, moved to version 2
-  module _ (is-1 : version s ≡ 1) where
-    -- it has no weights of its own
-    no-distribution : distributions s ≡ 0
-    unfolding distributions
-    no-distribution = rw is-1 refl
+  module _ (passed : fileJudgement 1 1 s ≡ accepted tt) where
+    whole-1 : Whole s
+    whole-1 = whole-by 1 passed
 
+    is-1 : version s ≡ 1
+    is-1 = version-is 1 passed
+
+    few-1 : M ≤ 64
+    few-1 = accepted-model 1 1 s passed .framed .states-max
+
+    -- it has no weights of its own
     none-held : distributions s * M ≡ 0
-    none-held = ap (λ (d : ℕ). d * M) no-distribution ∙ omega arith
+    none-held = ap (λ (d : ℕ). d * M) (other-version s (λ e. omega (arith, is-1))) ∙ omega arith
 
     weights-1 : fieldsOf s .weights ≡ []
     unfolding fieldsOf numbersAt firsts
@@ -131,22 +134,22 @@ module _ (s : List ℕ) (whole : Whole s) (few : stateCount s ≤ 64) where
     is-there = refl
 
     first-of-all : length (onFirst M) ≡ M
-    first-of-all = first-count M (whole .states-min)
+    first-of-all = first-count M (whole-1 .states-min)
 
     fits-there : Fits (inVersion 2 (onFirst M) (fieldsOf s))
-    fits-there = in-version-fits s whole 2 (onFirst M) few (omega arith) (omega (arith, first-of-all)) (omega (arith, first-of-all)) (first-fits M)
+    fits-there = in-version-fits s whole-1 2 (onFirst M) few-1 (omega arith) (omega (arith, first-of-all)) (omega (arith, first-of-all)) (first-fits M)
 
     told-there : Carried s there 2 (onFirst M)
-    told-there = carried s whole 2 (onFirst M) fits-there
+    told-there = carried s whole-1 2 (onFirst M) fits-there
 
     pub length-there : length (movedTo2 s) ≡ length s + 4 * M
-    length-there = ap (length {A = ℕ}) is-there ∙ omega (arith, length-file (inVersion 2 (onFirst M) (fieldsOf s)), numbers-in-version s whole 2 (onFirst M), first-of-all, whole .size, none-held)
+    length-there = ap (length {A = ℕ}) is-there ∙ omega (arith, length-file (inVersion 2 (onFirst M) (fieldsOf s)), numbers-in-version s whole-1 2 (onFirst M), first-of-all, whole-1 .size, none-held)
 
     -- its bytes: the new length, the version, bytes 3 to 12 as they were, the weights, and the rest as it was
     pub bytes-there : movedTo2 s ≡ bytesOf 2 (lengthField s + 4 * M) ++ (2 ∷ []) ++ take 10 (drop 3 s) ++ bytesOf 4 1000000 ++ replicate (4 * (M - 1)) 0 ++ drop 13 s
     bytes-there =
         is-there
-        ∙ bytes-in-version s whole 2 (onFirst M)
+        ∙ bytes-in-version s whole-1 2 (onFirst M)
         ∙ ap₂ (λ (n k : ℕ). bytesOf 2 n ++ (2 ∷ []) ++ take 10 (drop 3 s) ++ wordsOf (onFirst M) ++ drop k s) longer rewards-first
         ∙ ap (λ (l : List ℕ). before ++ l ++ drop 13 s) (words-first MILLION (replicate (M - 1) 0) ∙ ap (λ (l : List ℕ). bytesOf 4 1000000 ++ l) (words-zeros (M - 1)))
         ∙ ap (λ (l : List ℕ). l ++ drop 13 s) (sym (append-assoc before (bytesOf 4 1000000) (replicate (4 * (M - 1)) 0)))
@@ -158,7 +161,13 @@ module _ (s : List ℕ) (whole : Whole s) (few : stateCount s ≤ 64) where
         rewards-first = omega (arith, none-held)
 
         longer : 4 * (length (onFirst M) + M * M) + 11 ≡ lengthField s + 4 * M
-        longer = omega (arith, first-of-all, whole .size, whole .counted, none-held)
+        longer = omega (arith, first-of-all, whole-1 .size, whole-1 .counted, none-held)
+
+    -- its model is that of s, with one starting distribution
+    pub model-there : modelOf (movedTo2 s) ≡ withStart (modelOf s) 1 (weightField (movedTo2 s))
+    model-there =
+        subst (λ (x : List ℕ). modelOf x ≡ withStart (modelOf s) 1 (weightField x)) (sym is-there)
+        (told-there .model ∙ ap (λ (d : ℕ). withStart (modelOf s) d (weightField there)) (told-there .distributed))
 
     -- its weights
     weight-there : (i : ℕ) → i < M → weightField there i ≡ getD (onFirst M) i 0
@@ -169,49 +178,55 @@ module _ (s : List ℕ) (whole : Whole s) (few : stateCount s ≤ 64) where
 
     weighed-there : misweighted (modelOf there) ≡ false
     weighed-there =
-        well-weighted (modelOf there)
+        with-start (modelOf there) (omega (arith, told-there .distributed))
+        ∙ agree (sum (stateCount there) (weightField there)) 1000000
         (ap (λ (n : ℕ). sum n (weightField there)) (told-there .states)
-        ∙ sum-first M (weightField there) (whole .states-min) weight-later
-        ∙ weight-there 0 (whole .states-min))
+        ∙ sum-first M (weightField there) (whole-1 .states-min) weight-later
+        ∙ weight-there 0 (whole-1 .states-min))
 
     none-elsewhere : NoneHold (elsewhere (modelOf there))
     unfolding elsewhere
     none-elsewhere = (none-found (stateCount there - 1) (λ i. weightField there (i + 1)) (λ i h. weight-later i (omega (arith, h, told-there .states))), tt)
 
     -- moved back it is s
-    pub there-and-back : movedTo1 (movedTo2 s) ≡ s
+    pub back-from-2 : movedTo1 (movedTo2 s) ≡ s
     unfolding inVersion1
-    there-and-back =
+    back-from-2 =
         ap movedTo1 is-there
         ∙ ap (λ (x : Fields). fileOf (inVersion 1 [] x)) (told-there .fields)
-        ∙ same-start 1 [] is-1 weights-1
+        ∙ same-start 1 [] whole-1 is-1 weights-1
 
-    module _ (none : NoneHold (fileRows 1 1 s)) where
-      returned-there : (lent : ℕ) → length s ≤ lent → toVersion1 there lent ≡ accepted s
-      unfolding toVersion1
-      returned-there lent enough =
-          let table : Rows = fileRows 2 2 there ++ elsewhere (modelOf there) in
-          let passed : NoneHold table = none-together (fileRows 2 2 there) (elsewhere (modelOf there)) (told-there .rows 1 1 2 2 (omega arith) (omega arith) weighed-there none) none-elsewhere in
-          ap (λ (x : List ℕ). fileFor table x lent) (sym (ap movedTo1 is-there) ∙ there-and-back) ∙ is-written table s lent (all-pass table tt passed) enough
+    -- the call back returns s
+    returned-there : (lent : ℕ) → length s ≤ lent → toVersion1 there lent ≡ accepted s
+    unfolding toVersion1
+    returned-there lent enough =
+        let table : Rows = fileRows 2 2 there ++ elsewhere (modelOf there) in
+        let none : NoneHold table = none-together (fileRows 2 2 there) (elsewhere (modelOf there)) (told-there .rows 1 1 2 2 (omega arith) (omega arith) weighed-there (none-by 1 passed)) none-elsewhere in
+        ap (λ (x : List ℕ). fileFor table x lent) (sym (ap movedTo1 is-there) ∙ back-from-2) ∙ is-written table s lent (all-pass table tt none) enough
 
-      moved-there : Moved s there toVersion1
-      moved-there =
-          record {
-            accepts = unfold fileJudgement in all-pass (fileRows 1 2 there) tt (told-there .rows 1 1 1 2 (omega arith) (omega arith) weighed-there none);
-            same-level = told-there .level;
-            same-moments = told-there .moments;
-            returns = returned-there;
-          }
+    moved-there : Moved s there toVersion1
+    moved-there =
+        record {
+          accepts = unfold fileJudgement in all-pass (fileRows 1 2 there) tt (told-there .rows 1 1 1 2 (omega arith) (omega arith) weighed-there (none-by 1 passed));
+          same-level = told-there .level;
+          same-moments = told-there .moments;
+          returns = returned-there;
+        }
 
   -- a version 2 file, moved to version 1
-  module _ (is-2 : version s ≡ 2) where
-    -- it has one weight for each state
-    one-held : distributions s ≡ 1
-    unfolding distributions
-    one-held = rw is-2 refl
+  module _ (passed : fileJudgement 2 2 s ≡ accepted tt) where
+    whole-2 : Whole s
+    whole-2 = whole-by 2 passed
 
+    is-2 : version s ≡ 2
+    is-2 = version-is 2 passed
+
+    few-2 : M ≤ 64
+    few-2 = accepted-model 2 2 s passed .framed .states-max
+
+    -- it has one weight for each state
     all-held : distributions s * M ≡ M
-    all-held = ap (λ (d : ℕ). d * M) one-held ∙ omega arith
+    all-held = ap (λ (d : ℕ). d * M) (version-2 s is-2) ∙ omega arith
 
     -- the moved file
     abbrev back : List ℕ
@@ -222,19 +237,19 @@ module _ (s : List ℕ) (whole : Whole s) (few : stateCount s ≤ 64) where
     is-back = refl
 
     fits-back : Fits (inVersion 1 [] (fieldsOf s))
-    fits-back = in-version-fits s whole 1 [] few (omega arith) (omega arith) (omega arith) (λ i. omega arith)
+    fits-back = in-version-fits s whole-2 1 [] few-2 (omega arith) (omega arith) (omega arith) (λ i. omega arith)
 
     told-back : Carried s back 1 []
-    told-back = carried s whole 1 [] fits-back
+    told-back = carried s whole-2 1 [] fits-back
 
     pub length-back : length (movedTo1 s) + 4 * M ≡ length s
-    length-back = ap (λ (l : List ℕ). length l + 4 * M) is-back ∙ omega (arith, length-file (inVersion 1 [] (fieldsOf s)), numbers-in-version s whole 1 [], whole .size, all-held)
+    length-back = ap (λ (l : List ℕ). length l + 4 * M) is-back ∙ omega (arith, length-file (inVersion 1 [] (fieldsOf s)), numbers-in-version s whole-2 1 [], whole-2 .size, all-held)
 
     -- its bytes: the new length, the version, bytes 3 to 12 as they were, and what follows the weights as it was
     pub bytes-back : movedTo1 s ≡ bytesOf 2 (lengthField s - 4 * M) ++ (1 ∷ []) ++ take 10 (drop 3 s) ++ drop (13 + 4 * M) s
     bytes-back =
         is-back
-        ∙ bytes-in-version s whole 1 []
+        ∙ bytes-in-version s whole-2 1 []
         ∙ ap₂ (λ (n k : ℕ). bytesOf 2 n ++ (1 ∷ []) ++ take 10 (drop 3 s) ++ wordsOf [] ++ drop k s) shorter rewards-later
         ∙ ap (λ (l : List ℕ). before ++ l ++ drop (13 + 4 * M) s) no-words
         ∙ ap (λ (l : List ℕ). l ++ drop (13 + 4 * M) s) (append-nil before)
@@ -246,57 +261,87 @@ module _ (s : List ℕ) (whole : Whole s) (few : stateCount s ≤ 64) where
         rewards-later = omega (arith, all-held)
 
         shorter : 4 * (0 + M * M) + 11 ≡ lengthField s - 4 * M
-        shorter = omega (arith, whole .size, whole .counted, all-held)
+        shorter = omega (arith, whole-2 .size, whole-2 .counted, all-held)
 
         no-words : wordsOf [] ≡ []
         no-words = unfold wordsOf in refl
 
-    -- it has no distribution
+    -- its model is that of s, without one
+    pub model-back : modelOf (movedTo1 s) ≡ withStart (modelOf s) 0 (weightField (movedTo1 s))
+    model-back =
+        subst (λ (x : List ℕ). modelOf x ≡ withStart (modelOf s) 0 (weightField x)) (sym is-back)
+        (told-back .model ∙ ap (λ (d : ℕ). withStart (modelOf s) d (weightField back)) (told-back .distributed))
+
     weighed-back : misweighted (modelOf back) ≡ false
-    weighed-back = unweighted (modelOf back) (told-back .distributed)
+    weighed-back = no-start (modelOf back) (told-back .distributed)
 
-    module _ (none : NoneHold (fileRows 2 2 s)) (first : NoneHold (elsewhere (modelOf s))) where
-      -- row 16: the weights of s sum to 1,000,000
-      sum-2 : sum M (weightField s) ≡ 1000000
-      unfolding quantities
-      sum-2 =
-          let to12 = none-in-parts (framing 2 2 s ++ quantities (modelOf s) []) (jumps (uniformRate (modelOf s)) (timeField s)) none in
-          let to11 = none-in-parts (framing 2 2 s) (quantities (modelOf s) []) (to12 .0) in
-          weights-sum (modelOf s) one-held (to11 .1 .1 .1 .0)
-
+    module _ (first : NoneHold (elsewhere (modelOf s))) where
       -- row 17: those of the later states are 0
       zero-later : (i : ℕ) → i < M - 1 → weightField s (i + 1) ≡ 0
       unfolding elsewhere
       zero-later = all-zero (M - 1) (λ i. weightField s (i + 1)) (first .0)
 
-      -- so they are 1,000,000 and then zeros
+      -- and by row 16 they sum to 1,000,000: so they are 1,000,000 and then zeros
       weight-is : (i : ℕ) → i < M → weightField s i ≡ getD (onFirst M) i 0
-      weight-is zero h = sym (sum-first M (weightField s) (whole .states-min) zero-later) ∙ sum-2
+      weight-is zero h = sym (sum-first M (weightField s) (whole-2 .states-min) zero-later) ∙ accepted-model 2 2 s passed .limits .weights-sum (omega (arith, version-2 s is-2))
       weight-is (suc i) h = ap (weightField s) (sym (add-one i)) ∙ zero-later i (omega arith) ∙ sym (getD-zeros (M - 1) i)
 
       weights-2 : fieldsOf s .weights ≡ onFirst M
       unfolding fieldsOf numbersAt
       weights-2 =
           ap (λ (n : ℕ). firsts n (weightField s)) all-held
-          ∙ ext-getD 0 (firsts M (weightField s)) (onFirst M) (length-firsts M (weightField s) ∙ sym (first-count M (whole .states-min)))
+          ∙ ext-getD 0 (firsts M (weightField s)) (onFirst M) (length-firsts M (weightField s) ∙ sym (first-count M (whole-2 .states-min)))
           (λ i h. let inside : i < M = omega (arith, h, length-firsts M (weightField s)) in getD-firsts 0 M (weightField s) i inside ∙ weight-is i inside)
 
       -- moved back it is s
-      pub back-and-there : movedTo2 (movedTo1 s) ≡ s
+      pub back-from-1 : movedTo2 (movedTo1 s) ≡ s
       unfolding inVersion1 inVersion2 fieldsOf
-      back-and-there = ap (λ (x : Fields). fileOf (inVersion2 x)) (told-back .fields) ∙ same-start 2 (onFirst M) is-2 weights-2
+      back-from-1 = ap (λ (x : Fields). fileOf (inVersion2 x)) (told-back .fields) ∙ same-start 2 (onFirst M) whole-2 is-2 weights-2
 
       returned-back : (lent : ℕ) → length s ≤ lent → toVersion2 back lent ≡ accepted s
       unfolding toVersion2
       returned-back lent enough =
-          let passed : NoneHold (fileRows 1 1 back) = told-back .rows 2 2 1 1 (omega arith) (omega arith) weighed-back none in
-          ap (λ (x : List ℕ). fileFor (fileRows 1 1 back) x lent) (sym (ap movedTo2 is-back) ∙ back-and-there) ∙ is-written (fileRows 1 1 back) s lent (all-pass (fileRows 1 1 back) tt passed) enough
+          let none : NoneHold (fileRows 1 1 back) = told-back .rows 2 2 1 1 (omega arith) (omega arith) weighed-back (none-by 2 passed) in
+          ap (λ (x : List ℕ). fileFor (fileRows 1 1 back) x lent) (sym (ap movedTo2 is-back) ∙ back-from-1) ∙ is-written (fileRows 1 1 back) s lent (all-pass (fileRows 1 1 back) tt none) enough
 
       moved-back : Moved s back toVersion2
       moved-back =
           record {
-            accepts = unfold fileJudgement in all-pass (fileRows 1 2 back) tt (told-back .rows 2 2 1 2 (omega arith) (omega arith) weighed-back none);
+            accepts = unfold fileJudgement in all-pass (fileRows 1 2 back) tt (told-back .rows 2 2 1 2 (omega arith) (omega arith) weighed-back (none-by 2 passed));
             same-level = told-back .level;
             same-moments = told-back .moments;
             returns = returned-back;
           }
+
+-- "there and back returns the same bytes": of every answer of the calls
+module _ (s : List ℕ) (bytes : (i : ℕ) → getD s i 0 < 256) (lent : ℕ) where
+  -- to version 2 and back
+  pub there-and-back-1 : (t : List ℕ) → toVersion2 s lent ≡ accepted t → Moved s t toVersion1
+  unfolding toVersion2 fileJudgement
+  there-and-back-1 t h =
+      let written = was-written (fileRows 1 1 s) (movedTo2 s) lent t h in
+      let passed : fileJudgement 1 1 s ≡ accepted tt = all-pass (fileRows 1 1 s) tt (written .0) in
+      subst (λ (x : List ℕ). Moved s x toVersion1) (sym (is-there s bytes passed) ∙ written .1) (moved-there s bytes passed)
+
+  -- to version 1 and back
+  pub there-and-back-2 : (t : List ℕ) → toVersion1 s lent ≡ accepted t → Moved s t toVersion2
+  unfolding toVersion1 fileJudgement
+  there-and-back-2 t h =
+      let written = was-written (fileRows 2 2 s ++ elsewhere (modelOf s)) (movedTo1 s) lent t h in
+      let none = none-in-parts (fileRows 2 2 s) (elsewhere (modelOf s)) (written .0) in
+      let passed : fileJudgement 2 2 s ≡ accepted tt = all-pass (fileRows 2 2 s) tt (none .0) in
+      subst (λ (x : List ℕ). Moved s x toVersion2) (sym (is-back s bytes passed) ∙ written .1) (moved-back s bytes passed (none .1))
+
+  pub answer-there : ThereAndBack (toVersion2 s lent) s toVersion1
+  answer-there = told (toVersion2 s lent) refl
+    where
+      told : (a : Answer (List ℕ)) → toVersion2 s lent ≡ a → ThereAndBack a s toVersion1
+      told (accepted t) e = there-and-back-1 t e
+      told (refused k) e = tt
+
+  pub answer-back : ThereAndBack (toVersion1 s lent) s toVersion2
+  answer-back = told (toVersion1 s lent) refl
+    where
+      told : (a : Answer (List ℕ)) → toVersion1 s lent ≡ a → ThereAndBack a s toVersion2
+      told (accepted t) e = there-and-back-2 t e
+      told (refused k) e = tt

@@ -3,7 +3,7 @@ use Prim.Native.Nat.{ℕ, zero, suc, _+_, _*_, _-_, _≤_, _<_, _^_}
 use native.Mathlib.Omega.{arith}
 use native.Mathlib.Nat.{mul-le-mul}
 use mathlib.Core.Path.{_≡_, refl, sym, _∙_, ap, ap₂, subst}
-use mathlib.Core.Bool.{Bool, false, _||_}
+use mathlib.Core.Bool.{false, _||_}
 use mathlib.Core.List.{List, [], _++_}
 use lib.ListN.{length, getD, drop}
 use lib.Seq.{getD-drop}
@@ -33,7 +33,7 @@ shifted : (width a b k : ℕ) (l x : List ℕ) → drop a l ≡ drop b x → big
 shifted width a b k l x e = sym (big-drop width a k l) ∙ ap (λ (y : List ℕ). big width y k) e ∙ big-drop width b k x
 
 -- the model m with so many starting distributions, and the weights a
-abbrev withStart : Model → ℕ → (ℕ → ℕ) → Model
+abbrev pub withStart : Model → ℕ → (ℕ → ℕ) → Model
 withStart m d a =
     record {
       states = m .states;

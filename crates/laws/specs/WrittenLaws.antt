@@ -1,12 +1,12 @@
 -- What a call answers that writes a file, for any table and any file.
 use Prim.Native.Nat.{ℕ, _≤_, _<_}
-use mathlib.Core.Path.{_≡_, refl, _∙_, ap}
+use mathlib.Core.Path.{_≡_, refl, _∙_}
 use mathlib.Core.List.{List, _++_}
 use lib.ListN.{length}
 use borrow.Author.Tests.{lt-ltb, le-ltb}
 use Rattle.definitions.specs.Rules.{accepted, refused, Rows, room, firstHeld, judgedBy}
 use Rattle.definitions.specs.Written.{fileFor}
-use Rattle.laws.specs.RuleLaws.{andThen, row-stops, row-passes, none-left, in-parts, NoneHold, none-hold, accepted-value, none-in-parts, all-pass}
+use Rattle.laws.specs.RuleLaws.{andThen, row-stops, row-passes, none-left, in-parts, NoneHold, none-hold, accepted-value, none-in-parts}
 
 module _ (table : Rows) (file : List ℕ) (lent : ℕ) where
   -- its table's refusal, or what row 13 says of the bytes that are lent
