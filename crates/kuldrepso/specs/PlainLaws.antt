@@ -6,15 +6,13 @@ use mathlib.Core.List.{List}
 use lib.ListN.{length}
 use borrow.Author.Tests.{lt-ltb, le-ltb}
 use Rattle.definitions.specs.declared.Rests.{Rests}
-use Rattle.definitions.specs.Chain.{modelOf, jumpMillionths}
+use Rattle.definitions.specs.Chain.{modelOf}
 use Rattle.definitions.specs.Rules.{Answer, accepted, refused, seriesJudgement}
-use Rattle.definitions.specs.Level.{level}
 use Rattle.definitions.specs.Moment.{modelLevel, outcome}
 use Rattle.definitions.specs.Remainders.{Maybe, none, given}
 use Rattle.laws.specs.Acceptance.{accepted-file, accepted-series}
 use Rattle.laws.specs.RuleLaws.{accepted-is-no-refusal}
-use Rattle.laws.specs.LevelLaws.{level-is, level-max}
-use Rattle.laws.specs.MomentLaws.{level-accepted, outcome-accepted}
+use Rattle.laws.specs.MomentLaws.{level-range, level-accepted, outcome-accepted}
 use Rattle.kuldrepso.specs.Plain.{refusalsFrom, plainAnswer, returning, givenOrNone, meant}
 
 -- a plain number stands for its answer, where acceptances return less than refusalsFrom
@@ -25,15 +23,13 @@ answer-meant (refused k) below = rw (le-ltb (refusalsFrom + k) refusalsFrom (ome
 
 -- an acceptance goes out as its level, 1 to 563
 pub level-answer : (s : List ℕ) (cells n : ℕ) → outcome s cells ≡ accepted n → (plainAnswer (outcome s cells) ≡ n) × (1 ≤ n) × (n ≤ 563)
-unfolding plainAnswer modelLevel
+unfolding plainAnswer
 level-answer s cells n e =
     let passed = level-accepted s cells n e in
-    let limits = accepted-file s cells passed .limits in
     let same : accepted n ≡ accepted (modelLevel (modelOf s)) = sym e ∙ outcome-accepted s cells passed in
-    let number : n ≡ level (jumpMillionths (modelOf s)) (modelOf s .tolerance) = cc in
-    let past = level-is (jumpMillionths (modelOf s)) (modelOf s .tolerance) (limits .jumps-max) (limits .tolerance-pos) .passes .past in
-    let most = level-max (jumpMillionths (modelOf s)) (modelOf s .tolerance) (limits .jumps-max) (limits .tolerance-pos) in
-    (ap plainAnswer e, omega (arith, number, past, limits .jumps-pos), omega (arith, number, most))
+    let number : n ≡ modelLevel (modelOf s) = cc in
+    let range = level-range (modelOf s) (accepted-file s cells passed .model .limits) in
+    (ap plainAnswer e, omega (arith, number, range .0), omega (arith, number, range .1))
 
 -- a refusal goes out as refusalsFrom and its row
 pub refusal-answer : (s : List ℕ) (cells k : ℕ) → outcome s cells ≡ refused k → plainAnswer (outcome s cells) ≡ refusalsFrom + k

@@ -13,11 +13,11 @@ use Rattle.definitions.specs.Moment.{weighted, moment, startFigure, modelLevel,
 use Rattle.definitions.specs.Fraction.{AtMost, plus}
 use Rattle.definitions.specs.Average.{proper, exactU, average, startAverage}
 use Rattle.definitions.specs.Promise.{one-pos, ticks, toleranceOf, roundingTicks, startTicks, Close, StartClose, Promise}
-use Rattle.laws.specs.LevelLaws.{level-is, level-max, level-mode}
+use Rattle.laws.specs.LevelLaws.{level-is, level-mode}
 use Rattle.laws.specs.VectorLaws.{U-bound}
 use Rattle.laws.specs.VectorError.{vector-near}
 use Rattle.laws.specs.AverageBound.{Setting, LastQuotient, close-at-level, close-past-level}
-use Rattle.laws.specs.MomentLaws.{figure-of-state, figure-of-start, getD-figure, last-within}
+use Rattle.laws.specs.MomentLaws.{figure-of-state, figure-of-start, getD-figure, last-within, level-range}
 use Rattle.laws.specs.StartLaws.{mean-max, one-more, one-more-past, mean-within}
 use Rattle.laws.specs.Acceptance.{WithinLimits, AcceptedFile, accepted-file, stochastic}
 
@@ -33,7 +33,7 @@ module _ (m : Model) (g : WithinLimits m) where
       record {
         jumps = g .jumps-pos;
         passes = level-is (jumpMillionths m) (m .tolerance) (g .jumps-max) (g .tolerance-pos) .passes;
-        short = omega (arith, level-max (jumpMillionths m) (m .tolerance) (g .jumps-max) (g .tolerance-pos));
+        short = let most : modelLevel m ≤ 563 = level-range m g .1 in omega (arith, most);
         ticks-max = λ n h. U-bound (chainOf m) (stochastic m) n r i l;
         near = λ n. vector-near (chainOf m) (proper m (g .rewards-pos)) (stochastic m) n r i l;
         last = q;

@@ -1,4 +1,4 @@
--- The moments: their cells, and the last quotient.
+-- The moments: their cells, the last quotient, and the level.
 use Prim.Native.Nat.{ℕ, suc, _+_, _*_, _-_, _/_, _%_, _≤_, _<_}
 use native.Mathlib.Omega.{arith}
 use native.Mathlib.Nat.{mul-le-mul, mul-le-mul-left}
@@ -8,7 +8,7 @@ use lib.ListN.{getD}
 use borrow.Author.Tests.{lt-ltb, le-ltb}
 use Rattle.definitions.specs.Sums.{over}
 use Rattle.definitions.specs.Division.{Rounds}
-use Rattle.definitions.specs.Chain.{Model, modelOf, blockOf}
+use Rattle.definitions.specs.Chain.{Model, modelOf, jumpMillionths, blockOf}
 use Rattle.definitions.specs.Vectors.{ONE}
 use Rattle.definitions.specs.Weights.{mode, weight, weightSum}
 use Rattle.definitions.specs.Moment.{term, weighted, lastQuotient, weightedMean, moment, startFigure, cellOf, figureOf, cell, modelLevel, outcome}
@@ -19,6 +19,8 @@ use Rattle.laws.specs.SumLaws.{sum-mono}
 use Rattle.laws.specs.RuleLaws.{accepted-is-no-refusal, other-value}
 use Rattle.laws.specs.ListLaws.{getD-over}
 use Rattle.laws.specs.WeightLaws.{weightSum-min}
+use Rattle.laws.specs.Acceptance.{WithinLimits}
+use Rattle.laws.specs.LevelLaws.{level-is, level-max}
 use Rattle.laws.specs.AverageBound.{LastQuotient}
 
 -- the r and the state of a cell below M × R are within R and M
@@ -104,6 +106,13 @@ last-within X N u reached h =
       high = omega (arith, half .below);
       top = last-max A S pos (weighted-max X N u h);
     }
+
+-- the level of a model within its limits is 1 to 563
+pub level-range : (m : Model) → WithinLimits m → (1 ≤ modelLevel m) × (modelLevel m ≤ 563)
+unfolding modelLevel
+level-range m g =
+    let X : ℕ = jumpMillionths m in
+    (omega (arith, level-is X (m .tolerance) (g .jumps-max) (g .tolerance-pos) .passes .past, g .jumps-pos), omega (arith, level-max X (m .tolerance) (g .jumps-max) (g .tolerance-pos)))
 
 -- the outcome of a refused file, and of an accepted one
 pub outcome-refused : (s : List ℕ) (cells k : ℕ) → judgement s cells ≡ refused k → outcome s cells ≡ refused k

@@ -9,7 +9,7 @@ use Rattle.definitions.specs.Chain.{Model, modelOf, chainOf, uniformRate, jumpM
 use Rattle.definitions.specs.Moment.{modelLevel}
 use Rattle.laws.specs.ChainLaws.{square-max}
 use Rattle.laws.specs.ArrayLaws.{zeros}
-use Rattle.laws.specs.LevelLaws.{level-max}
+use Rattle.laws.specs.MomentLaws.{level-range}
 use Rattle.laws.specs.RemainderLaws.{rests-same}
 use Rattle.vectors.specs.ModelLaws.{Held, held-ready, held-same}
 use Rattle.remainders.proofs.rests_of.Statement.{statement}
@@ -47,7 +47,6 @@ module _ (c : tie.After-rewards) where
       }
 
 rests-at-requires : tie.Need-rests-at-requires
-unfolding modelLevel
 rests-at-requires c κs =
     let limits = start c .pre .0 .0 .limits in
     let within = start c .pre .0 .1 in
@@ -57,7 +56,7 @@ rests-at-requires c κs =
       ready = held-ready (m c) (m c .time) (read c) limits;
       highest-max = omega (arith, highest, limits .highest-max);
       jumps-min = within .jumps-min;
-      jumps-max = omega (arith, within .jumps-max, level-max (jumpMillionths (m c)) (m c .tolerance) (limits .jumps-max) (limits .tolerance-pos));
+      jumps-max = omega (arith, within .jumps-max, level-range (m c) limits .1);
       moment-min = within .moment-min;
       moment-max = omega (arith, highest, within .moment-max);
       state = omega (arith, states, within .state-min, within .state-max);
