@@ -4,11 +4,11 @@ ghost use mathlib.Core.List.{List};
 ghost use Prim.Native.Nat.{ℕ};
 ghost use lib.ListN.{take};
 ghost use Rattle.definitions.specs.Sheet.{sheet, printedSheet};
-ghost use Rattle.sheet.specs.Printed.{Printed};
+ghost use Rattle.writing.specs.Printed.{Printed};
 ghost use Rattle.report.specs.Held.{Holds};
 
 // The bytes of standard input that are judged.
-pub const LIMIT: usize = 16398;
+pub const LIMIT: usize = 16654;
 
 // The bytes of a buffer that has room for every sheet.
 pub const ROOM: usize = sheet::ROOM;
@@ -17,14 +17,15 @@ pub const ROOM: usize = sheet::ROOM;
 fn report_file(file: &[u8], out: &mut [u8; ROOM]) -> usize
     ensures { λ n. ⌜ Printed (sheet (now (file .entry))) (now (out .entry)) (now (out .exit)) n ⌝ }
 {
-    let mut cells = [0u64; 512];
+    let mut cells = [0u64; 520];
     let outcome = moments::calculate(file, &mut cells);
     match outcome {
-        Outcome::Refused(rule) => sheet::write_sheet(Outcome::Refused(rule), 0, 0, &cells, out),
+        Outcome::Refused(rule) => sheet::write_sheet(Outcome::Refused(rule), 0, 0, 0, &cells, out),
         Outcome::Level(level) => {
             let states = reader::state_count(file);
             let highest = reader::highest_moment(file);
-            sheet::write_sheet(Outcome::Level(level), states, highest, &cells, out)
+            let block = reader::block_size(file);
+            sheet::write_sheet(Outcome::Level(level), states, highest, block, &cells, out)
         }
     }
 }
