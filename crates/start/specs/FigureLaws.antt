@@ -1,18 +1,17 @@
 -- The start figures: their range, and the cells that they stand in.
 use mathlib.Core.List.{List}
-use mathlib.Core.Path.{_≡_, refl, _∙_, ap}
+use mathlib.Core.Path.{_≡_, refl, ap}
 use Prim.Native.Nat.{ℕ, _+_, _*_, _-_, _≤_, _<_}
 use native.Mathlib.Nat.{mul-le-mul-left, mul-le-mul-right}
 use native.Mathlib.Omega.{arith}
 use native.Mathlib.Decide.{decLt}
 use lib.ListN.{getD}
 use borrow.Author.Tests.{lt-ltb, le-ltb}
-use Rattle.definitions.specs.Sums.{sum}
 use Rattle.definitions.specs.Vectors.{ONE}
 use Rattle.definitions.specs.Weights.{MILLION}
-use Rattle.laws.specs.SumLaws.{sum-mono, sum-times, sum-part}
 use Rattle.definitions.specs.Moment.{startMean}
 use Rattle.laws.specs.Rounding.{place-below}
+use Rattle.laws.specs.SumLaws.{sum-mono, sum-times, sum-part}
 use Rattle.laws.specs.StartLaws.{mean-same}
 use Rattle.laws.specs.ArrayLaws.{entryOf}
 use Rattle.start.specs.Figures.{momentsOf, startTotal, startCell, Distribution}

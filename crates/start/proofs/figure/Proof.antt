@@ -1,5 +1,5 @@
 -- The total is the sum over the states passed.
-use Prim.Native.Nat.{ℕ, _+_, _-_, _*_, _/_, _%_, _≤_, _<_}
+use Prim.Native.Nat.{ℕ, _+_, _-_, _*_, _/_, _≤_, _<_}
 use native.Mathlib.Omega.{arith}
 use mathlib.Core.Path.{_≡_, _∙_, ap}
 use Rattle.definitions.specs.Weights.{MILLION}
@@ -15,7 +15,7 @@ use Rattle.start.proofs.figure.Statement.{statement}
 use Rattle.start.proofs.figure.Tie as tie
 
 abbrev Inv-loop : tie.InvT-loop
-Inv-loop weights states highest r block total₀ i₀ total i = (i ≤ states) × (total ≡ startTotal weights i (momentsOf highest r (entryOf block)))
+Inv-loop weights states highest r block total₀ i₀ total i = (total ≡ startTotal weights i (momentsOf highest r (entryOf block))) × (i ≤ states)
 
 abbrev μ-loop : tie.MeasureT-loop
 μ-loop weights states highest r block total₀ i₀ total i = states - i
@@ -45,19 +45,25 @@ module _ (c : tie.In-loop Inv-loop μ-loop) where
 
   -- with one product more the total is at most 10^6 × 10^12
   added : c .before .loop .total + product start i ≡ startTotal (start .args .weights .now) (i + 1) (moments start)
-  added = omega (arith, c .before .loop .inv .1, sum-more i (product start))
+  added = omega (arith, c .before .loop .inv .0, sum-more i (product start))
 
   added-max : startTotal (start .args .weights .now) (i + 1) (moments start) ≤ MILLION * ONE
   added-max =
       total-max (start .args .weights .now) (start .args .states) (i + 1) (moments start) (start .pre .0) (omega (arith, c .loop-test .taken))
       (λ j b. start .pre .1 .most (j * start .args .highest + start .args .r) (place-below j (start .args .r) (start .args .states) (start .args .highest) b (start .pre .2)))
 
+loop-holds : tie.Need-loop-holds Inv-loop μ-loop
+loop-holds c = (omega (arith, sum-zero (product c)), omega arith)
+
+loop-again : tie.Need-loop-again Inv-loop μ-loop
+loop-again c = (omega (arith, added (c .before .before)), omega arith)
+
 returns : tie.Need-returns Inv-loop μ-loop
 unfolding startMean
 returns c =
     let begin = c .before .before in
     let all : c .before .loop .i ≡ begin .args .states = omega arith in
-    let whole : c .before .loop .total ≡ startTotal (begin .args .weights .now) (begin .args .states) (moments begin) = c .before .loop .inv .1 ∙ ap (λ (n : ℕ). startTotal (begin .args .weights .now) n (moments begin)) all in
+    let whole : c .before .loop .total ≡ startTotal (begin .args .weights .now) (begin .args .states) (moments begin) = c .before .loop .inv .0 ∙ ap (λ (n : ℕ). startTotal (begin .args .weights .now) n (moments begin)) all in
     (ap (λ (n : ℕ). n / MILLION) whole, rw whole (divides (startTotal (begin .args .weights .now) (begin .args .states) (moments begin)) MILLION (omega arith)))
 
 pub figure-spec : {M : Type 1} → statement M
@@ -66,7 +72,7 @@ figure-spec =
     (tie.spec
     Inv-loop
     μ-loop
-    (λ c. (omega arith, omega (arith, sum-zero (product c))))
+    loop-holds
     (λ c. omega (arith, start c .pre .0 .states-max))
     (λ c. omega (arith, start c .pre .0 .states-max))
     (λ c. omega (arith, place (c .before), few (c .before)))
@@ -77,5 +83,5 @@ figure-spec =
     (λ c. omega (arith, added (c .before .before), added-max (c .before .before)))
     (λ c. omega arith)
     (λ c. omega arith)
-    (λ c. (omega arith, omega (arith, added (c .before .before))))
+    loop-again
     returns)

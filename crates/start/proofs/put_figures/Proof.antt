@@ -3,19 +3,20 @@ use Prim.Native.Nat.{ℕ, _+_, _-_, _*_, _≤_, _<_}
 use native.Mathlib.Omega.{arith}
 use mathlib.Core.Path.{_≡_, refl, sym, _∙_, ap}
 use mathlib.Core.List.{List}
-use lib.ListN.{length, getD, length-set}
+use lib.ListN.{length, getD, set, length-set}
 use Rattle.definitions.specs.Sums.{over}
+use Rattle.definitions.specs.Moment.{startMean}
 use Rattle.laws.specs.ArrayLaws.{entryOf}
 use Rattle.laws.specs.ListLaws.{getD-over, over-kept, over-store}
 use Rattle.laws.specs.MomentLaws.{count-max}
-use Rattle.start.specs.Figures.{startCell}
+use Rattle.start.specs.Figures.{momentsOf, startCell}
 use Rattle.start.specs.FigureLaws.{cell-kept, cell-of-figure, figure-same}
 use Rattle.start.proofs.put_figures.Statement.{statement}
 use Rattle.start.proofs.put_figures.Tie as tie
 
 abbrev Inv-loop : tie.InvT-loop
 Inv-loop weights states highest block₀ moments r₀ block r =
-    (r ≤ highest) × (block ≡ over (states * highest + r) (startCell weights states highest (entryOf block₀)) block₀) × (length block ≡ length block₀)
+    (block ≡ over (moments + r) (startCell weights states highest (entryOf block₀)) block₀) × (r ≤ highest) × (length block ≡ length block₀)
 
 abbrev μ-loop : tie.MeasureT-loop
 μ-loop weights states highest block₀ moments r₀ block r = highest - r
@@ -28,16 +29,17 @@ module _ (c : tie.Start Inv-loop μ-loop) where
   few : cells ≤ 64 * 8
   few = count-max (c .args .states) (c .args .highest) 64 (c .pre .0 .states-max) (c .pre .1 .highest-max)
 
-  -- the cells with all figures
+  -- the cells with all figures: those of the moments stay
   abbrev put : ℕ → ℕ
   put = startCell (c .args .weights .now) (c .args .states) (c .args .highest) (entryOf (c .args .block .now))
 
--- no figure at first: the moments stand
-first : (c : tie.Start Inv-loop μ-loop) → c .args .block .now ≡ over (cells c + 0) (put c) (c .args .block .now)
-first c =
-    sym
-    (over-kept 0 (cells c + 0) (put c) (c .args .block .now) (omega (arith, c .pre .1 .room))
-    (λ e b. cell-kept (c .args .weights .now) (c .args .states) (c .args .highest) (entryOf (c .args .block .now)) e (omega (arith, b))))
+  kept : (e : ℕ) → e < cells → put e ≡ getD (c .args .block .now) e 0
+  kept e b = cell-kept (c .args .weights .now) (c .args .states) (c .args .highest) (entryOf (c .args .block .now)) e b
+
+loop-holds : tie.Need-loop-holds Inv-loop μ-loop
+loop-holds c =
+    let begin = c .before in
+    (sym (over-kept 0 _ (put begin) (begin .args .block .now) (omega (arith, begin .pre .1 .room)) (λ e b. kept begin e (omega (arith, b)))), omega arith, refl)
 
 -- a turn of the loop
 module _ (c : tie.In-loop Inv-loop μ-loop) where
@@ -50,11 +52,12 @@ module _ (c : tie.In-loop Inv-loop μ-loop) where
   room : cells start + r < length (start .args .block .now)
   room = omega (arith, c .loop-test .taken, start .pre .2)
 
+  -- the moments are those that were handed over
   standing : (e : ℕ) → e < cells start → getD (c .before .loop .block) e 0 ≡ getD (start .args .block .now) e 0
   standing e b =
-      ap (λ (l : List ℕ). getD l e 0) (c .before .loop .inv .1)
-      ∙ getD-over 0 (cells start + r) (put start) (start .args .block .now) e (omega arith)
-      ∙ cell-kept (start .args .weights .now) (start .args .states) (start .args .highest) (entryOf (start .args .block .now)) e b
+      ap (λ (l : List ℕ). getD l e 0) (c .before .loop .inv .0)
+      ∙ getD-over 0 _ (put start) (start .args .block .now) e (omega arith)
+      ∙ kept start e b
 
 figure-requires : tie.Need-figure-requires Inv-loop μ-loop
 figure-requires c κs =
@@ -66,31 +69,46 @@ figure-requires c κs =
         room = omega (arith, given .1 .room, turn .before .loop .inv .2);
         most = λ e b. rw (standing turn e b) (given .1 .most e b);
       },
-      turn .loop-test .taken,
+      omega (arith, turn .loop-test .taken),
     )
 
--- what is put in the next cell is its figure
-is-figure : (c : tie.After-figure Inv-loop μ-loop) → c .figure .result ≡ put (start (c .before .before)) (cells (start (c .before .before)) + r (c .before .before))
-is-figure c =
-    c .figure .ensures .0
-    ∙ figure-same (start (c .before .before) .args .weights .now) _ _ (entryOf (c .before .before .before .loop .block)) (entryOf (start (c .before .before) .args .block .now)) (r (c .before .before)) (c .before .before .loop-test .taken) (standing (c .before .before))
-    ∙ sym (cell-of-figure (start (c .before .before) .args .weights .now) _ _ (entryOf (start (c .before .before) .args .block .now)) (r (c .before .before)))
+-- after the call
+module _ (c : tie.After-figure Inv-loop μ-loop) where
+  abbrev turn : tie.In-loop Inv-loop μ-loop
+  turn = c .before .before
+
+  abbrev weights : List ℕ
+  weights = start turn .args .weights .now
+
+  abbrev M : ℕ
+  M = start turn .args .states
+
+  abbrev R : ℕ
+  R = start turn .args .highest
+
+  -- the result is the figure of the block as it stands, and so of the block handed over
+  computed : c .figure .result ≡ startMean M (entryOf weights) (momentsOf R (r turn) (entryOf (turn .before .loop .block)))
+  computed = c .figure .ensures .0
+
+  is-figure : c .figure .result ≡ put (start turn) (cells (start turn) + r turn)
+  is-figure =
+      computed
+      ∙ figure-same weights M R (entryOf (turn .before .loop .block)) (entryOf (start turn .args .block .now)) (r turn) (turn .loop-test .taken) (standing turn)
+      ∙ sym (cell-of-figure weights M R (entryOf (start turn .args .block .now)) (r turn))
+
+  next-put : set (turn .before .loop .block) (cells (start turn) + r turn) (c .figure .result) ≡ over (cells (start turn) + (r turn + 1)) (put (start turn)) (start turn .args .block .now)
+  next-put =
+      let next : cells (start turn) + r turn + 1 ≡ cells (start turn) + (r turn + 1) = omega arith in
+      rw next at (over-store (cells (start turn) + r turn) (put (start turn)) (start turn .args .block .now) (turn .before .loop .block) (c .figure .result) (room turn) (turn .before .loop .inv .0) is-figure)
 
 loop-again : tie.Need-loop-again Inv-loop μ-loop
-loop-again c =
-    let turn = c .before .before in
-    let begin = start turn in
-    let next : cells begin + r turn + 1 ≡ cells begin + (r turn + 1) = omega arith in (
-      omega arith,
-      rw next at (over-store (cells begin + r turn) _ _ _ (c .figure .result) (room turn) (turn .before .loop .inv .1) (is-figure c)),
-      simp length-set (turn .before .loop .inv .2),
-    )
+loop-again c = (next-put c, omega arith, simp length-set (c .before .before .before .loop .inv .2))
 
 returns : tie.Need-returns Inv-loop μ-loop
 returns c =
     let begin = c .before .before .before in
     let done : cells begin + c .before .loop .r ≡ (begin .args .states + 1) * begin .args .highest = omega arith in
-    c .before .loop .inv .1 ∙ ap (λ (n : ℕ). over n (put begin) (begin .args .block .now)) done
+    c .before .loop .inv .0 ∙ ap (λ (n : ℕ). over n (put begin) (begin .args .block .now)) done
 
 pub put-figures-spec : {M : Type 1} → statement M
 put-figures-spec =
@@ -99,7 +117,7 @@ put-figures-spec =
     Inv-loop
     μ-loop
     (λ c. omega (arith, few (c .before)))
-    (λ c. (omega arith, first (c .before), refl))
+    loop-holds
     figure-requires
     (λ c. omega (arith, few (start (c .before .before)), start (c .before .before) .pre .1 .highest-max))
     (λ c. omega (arith, few (start (c .before .before)), start (c .before .before) .pre .1 .highest-max))
