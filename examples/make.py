@@ -3,7 +3,8 @@
 With --check, compare them with the stored ones instead.
 
 The bytes are put together by build() of reference/models.py, the sheets come from
-reference/calculator.py. Rates are in millionths per hour, the tolerance is in billionths.
+reference/calculator.py. Rates are in millionths per hour, the tolerance is in billionths, the
+starting weights of version 2 are in millionths.
 """
 
 import os
@@ -27,13 +28,13 @@ def file_A():
     return models.build(version=1, M=1, R=1, eps=10_000, T=1, rewards=[5], rates=[[]])
 
 
-def file_B():
+def file_B(version=1, weights=()):
     """Two states, left for each other once an hour; only state 1 earns a reward."""
-    return models.build(version=1, M=2, R=2, eps=100_000_000, T=1, rewards=[1, 0],
-                        rates=[[1_000_000], [1_000_000]])
+    return models.build(version=version, M=2, R=2, eps=100_000_000, T=1, weights=weights,
+                        rewards=[1, 0], rates=[[1_000_000], [1_000_000]])
 
 
-def pair():
+def pair(version=1, weights=()):
     """Two identical units, one repair crew; the reward is the number of working units."""
     failure, repair = 1_000, 100_000
     rates = [
@@ -41,8 +42,8 @@ def pair():
         [repair, 0, failure],      # state 2: one works, one is in repair
         [0, repair, 0],            # state 3: none works, one is in repair
     ]
-    return models.build(version=1, M=3, R=3, eps=10_000, T=1_000, rewards=[2, 1, 0],
-                        rates=without_diagonal(rates))
+    return models.build(version=version, M=3, R=3, eps=10_000, T=1_000, weights=weights,
+                        rewards=[2, 1, 0], rates=without_diagonal(rates))
 
 
 def multiprocessor(processors, stages, hours):
@@ -70,7 +71,9 @@ def multiprocessor(processors, stages, hours):
 EXAMPLES = {
     "A": file_A(),
     "B": file_B(),
+    "B-start": file_B(version=2, weights=[250_000, 750_000]),
     "pair": pair(),
+    "pair-start": pair(version=2, weights=[900_000, 90_000, 10_000]),
     "multiprocessor": multiprocessor(processors=8, stages=64, hours=720),
     "multiprocessor-16": multiprocessor(processors=16, stages=1024, hours=100),
 }

@@ -1,14 +1,16 @@
 #!/usr/bin/env python3
-"""Worked solutions: the divisions of the reward vectors, each quotient with its rest (document 02, S-4).
+"""Worked solutions: the divisions of the reward vectors, each quotient with its rest (document 02, S-4), and for a file
+of version 2 those of the start figures (S-5).
 
-    python3 examples/worked.py [--library PATH]             writes B.worked and pair.worked
+    python3 examples/worked.py [--library PATH]             writes B.worked, B-start.worked and pair.worked
     python3 examples/worked.py [--library PATH] --check     compares them with what the library gives, byte for byte,
                                                             and each of their numbers with the reference
     python3 examples/worked.py [--library PATH] FILE        prints the solution of a model file
 
 The rests are those that the library's call kuldrepso_remainders gives, the level is that of kuldrepso_calculate. Each
 dividend is worked out here, from the file and the vectors so far. Its rest is taken off, and what is left has to be
-divisible: the quotient stands in the table, and goes into the dividends after it.
+divisible: the quotient stands in the table, and goes into the dividends after it. Moments and start figures are those
+of kuldrepso_calculate; what a start figure leaves of its dividend has to be below 1,000,000.
 
 Without --library, the library that the script build of this repository makes is called; PATH is a static library or a
 shared object (.so). Exit status: 0; 1 where a call or a stored file is wrong, or FILE is refused; 2 when the run itself
@@ -33,11 +35,13 @@ import library  # noqa: E402
 import models  # noqa: E402
 import runner  # noqa: E402
 import stored  # noqa: E402
-from calculator import GIVEN, NONE, ONE, REFUSED  # noqa: E402
+from calculator import GIVEN, MILLION, NONE, ONE, REFUSED  # noqa: E402
 
-NAMES = ["B", "pair"]     # the models with a stored solution
-STORED = " and ".join(name + ".worked" for name in NAMES)
+NAMES = ["B", "B-start", "pair"]     # the models with a stored solution
+STORED = ", ".join(name + ".worked" for name in NAMES)
 HEADINGS = ["n", "r", "state", "V", "rest", "W", "rest", "U", "rest"]
+START_HEADINGS = ["r", "dividend", "start", "rest"]
+START = "Start figures:"  # begins the part for version 2
 WIDTH = 100               # of a line with a list of numbers
 
 
@@ -85,14 +89,14 @@ def rests(linked, file, n, r, state):
 
 
 def judged(linked, file):
-    """What kuldrepso_calculate answers of a file: its level, or a refusal. kuldrepso_remainders has to answer the same
-    refusal, or none behind the level."""
-    answer, _ = called(linked, "calculate", dict(file=file, cells=calculator.LENT_CELLS))
+    """What kuldrepso_calculate answers of a file, its level or a refusal, and the cells. kuldrepso_remainders has to
+    answer the same refusal, or none behind the level."""
+    answer, written = called(linked, "calculate", dict(file=file, cells=calculator.LENT_CELLS))
     n, right = (1, answer) if answer >= REFUSED else (answer + 1, NONE)
     got, _ = remainders(linked, file, n, 1, 1)
     if got != right:
         raise Wrong(f"{place(n, 1, 1)}: kuldrepso_remainders answers {got}, not {right}; kuldrepso_calculate {answer}")
-    return answer
+    return answer, written["cells"]
 
 
 # --- The divisions --------------------------------------------------------------------------------
@@ -137,6 +141,17 @@ def blocks(model, N, ask):
         earlier = vectors
 
 
+def start_lines(model, cells):
+    """For each r of a version 2 file: r, the sum of weight times moment, the start figure, and what it leaves."""
+    for r in range(1, model.R + 1):
+        dividend = sum(map(mul, model.a, moments(model, cells, r)))
+        figure = cells[model.M * model.R + r - 1]
+        rest = dividend - MILLION * figure
+        if not 0 <= rest < MILLION:
+            raise Wrong(f"start {r}: {dividend} less {MILLION} x {figure} is {rest}, no rest below {MILLION}")
+        yield r, dividend, figure, rest
+
+
 # --- The text -------------------------------------------------------------------------------------
 
 def rates(model):
@@ -147,6 +162,16 @@ def rates(model):
 def starts(first):
     """U(0,1) to U(0,R) as lists with labels."""
     return {f"U(0,{r})": vector for r, vector in enumerate(first) if r}
+
+
+def moments(model, cells, r):
+    """Moment r of each state, from the cells."""
+    return cells[r - 1:model.M * model.R:model.R]
+
+
+def weighted(model, cells):
+    """The starting weights of version 2, and the moments, as lists with labels."""
+    return {"weight": model.a, **{f"moment({r})": moments(model, cells, r) for r in range(1, model.R + 1)}}
 
 
 def listed(lists):
@@ -194,8 +219,23 @@ def row(cells, columns):
     return " ".join(f"{cell:>{wide}}" for cell, wide in zip(cells, columns))
 
 
-def solution(linked, file, name, N):
-    """The lines of the worked solution of an accepted file: the head, and a row for each n, r and state."""
+def start_part(model, cells):
+    """The lines for the start figures of a version 2 file."""
+    columns = [1, 19, 14, len(str(MILLION - 1))]
+    return [
+        "",
+        f"{START} for each r the sum over the states of weight x moment(r), divided by {MILLION}.",
+        "The weights are in millionths, the moments are those of the sheet, in ticks, from state 1 to state M:",
+        *listed(weighted(model, cells)),
+        "",
+        row(START_HEADINGS, columns),
+        *(row(each, columns) for each in start_lines(model, cells)),
+    ]
+
+
+def solution(linked, file, name, N, cells):
+    """The lines of the worked solution of an accepted file: the head, a row for each n, r and state, and in version 2
+    the start figures."""
     model = calculator.read_model(file)
     columns = widths(model, N)
     yield from head(name, model, N)
@@ -205,6 +245,8 @@ def solution(linked, file, name, N):
             yield ""
         for each in lines:
             yield row(each, columns)
+    if model.a:
+        yield from start_part(model, cells)
 
 
 # --- The stored solutions -------------------------------------------------------------------------
@@ -220,7 +262,7 @@ def contents(linked):
     for name in NAMES:
         file = read(name + ".model")
         try:
-            lines = [*solution(linked, file, name + ".model", judged(linked, file))]
+            lines = [*solution(linked, file, name + ".model", *judged(linked, file))]
         except Wrong as wrong:
             raise Wrong(f"{name}.model, {wrong}") from None
         result[name + ".worked"] = "".join(each + "\n" for each in lines).encode("ascii")
@@ -236,20 +278,24 @@ def compare_with_library(linked):
 
 
 def numbers_in(text):
-    """What a solution says: {(label, number, ...)} of its head, and the numbers of each row of its table."""
-    top, *rest = re.split("(?m)^ *" + " +".join(HEADINGS) + "$", text)
-    labels = re.findall(r"(\S+) += ([\d\s]*\d)", top)
-    rows = "".join(rest).splitlines()
-    return {(label, *numbers.split()) for label, numbers in labels}, [each.split() for each in rows if each]
+    """What a solution says: {(label, number, ...)} before its tables, and the numbers of each row of them."""
+    headings = "|".join(" +".join(each) for each in (HEADINGS, START_HEADINGS))
+    labels, rows = [], []
+    for part in re.split(f"(?m)^(?={START})", text):
+        top, *rest = re.split(f"(?m)^ *(?:{headings})$", part)
+        labels += re.findall(r"(\S+) += ([\d\s]*\d)", top)
+        rows += [each.split() for each in "".join(rest).splitlines() if each]
+    return {(label, *numbers.split()) for label, numbers in labels}, rows
 
 
 def numbers_of(file):
     """What the solution of a file has to say, by the reference."""
-    model, worked = calculator.read_model(file), calculator.worked(file)
+    model, worked, cells = calculator.read_model(file), calculator.worked(file), [0] * calculator.LENT_CELLS
+    calculator.calculate(file, cells)
     labels = {"M": [model.M], "R": [model.R], "N": [worked.N], "E": [worked.E], "F": [worked.F],
-              **rates(model), "U(n,0)": [ONE], **starts(worked.first)}
-    rows = [[*map(str, each)] for each in worked.lines]
-    return {(label, *map(str, numbers)) for label, numbers in labels.items()}, rows
+              **rates(model), "U(n,0)": [ONE], **starts(worked.first), **(weighted(model, cells) if model.a else {})}
+    lines = [*worked.lines, *(start_lines(model, cells) if model.a else [])]
+    return {(label, *map(str, numbers)) for label, numbers in labels.items()}, [[*map(str, each)] for each in lines]
 
 
 def compare_with_reference(name):
@@ -269,13 +315,13 @@ def compare_with_reference(name):
 def show(linked, path):
     """Prints the solution of a model file, or its refusal; the status."""
     file = calculator.read_input([path])
-    answer = judged(linked, file)
+    answer, cells = judged(linked, file)
     if answer >= REFUSED:
         print(f"refused {answer - REFUSED}", flush=True)
         print(f"worked.py: rule {answer - REFUSED} of docs/FORMAT.md", file=sys.stderr)
         return 1
     name = os.path.basename(path).encode("ascii", "backslashreplace").decode("ascii")
-    for each in solution(linked, file, name, answer):
+    for each in solution(linked, file, name, answer, cells):
         print(each)
     return 0
 

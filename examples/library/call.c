@@ -25,11 +25,15 @@ int main(void)
         return fflush(stdout) ? 2 : 1;
     }
     printf("level %" PRIu64 "\n", answer);
-    int states = file[3], highest = file[4];
-    for (int i = 1; i <= states; i++) {
+    int states = file[3], highest = file[4], start = file[2] == 2; /* in version 2 the start follows the states */
+    for (int i = 1; i <= states + start; i++) {
         for (int r = 1; r <= highest; r++) {
-            uint64_t moment = cells[(i - 1) * highest + (r - 1)];
-            printf("%d %d %" PRIu64 ".%012" PRIu64 "\n", i, r, moment / KULDREPSO_ONE, moment % KULDREPSO_ONE);
+            uint64_t figure = cells[(i - 1) * highest + (r - 1)];
+            if (i <= states)
+                printf("%d", i);
+            else
+                printf("start");
+            printf(" %d %" PRIu64 ".%012" PRIu64 "\n", r, figure / KULDREPSO_ONE, figure % KULDREPSO_ONE);
         }
     }
     return fflush(stdout) ? 2 : 0;

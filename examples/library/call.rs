@@ -13,7 +13,8 @@ extern "C" {
 const REFUSED: u64 = 1_000_000;
 const ONE: u64 = 1_000_000_000_000;
 
-/// The level, with the moments in the cells; or the number of the rule that stops the file, and no cell changes.
+/// The level, with the moments, and in version 2 the start figures, in the cells; or the number of the rule that stops
+/// the file, and no cell changes.
 fn calculate(file: &[u8], cells: &mut [u64]) -> Result<u64, u64> {
     let answer = unsafe { kuldrepso_calculate(file.as_ptr(), file.len(), cells.as_mut_ptr(), cells.len()) };
     if answer < REFUSED {
@@ -25,8 +26,8 @@ fn calculate(file: &[u8], cells: &mut [u64]) -> Result<u64, u64> {
 
 fn main() -> std::io::Result<ExitCode> {
     let mut file = Vec::new();
-    stdin().take(16_398).read_to_end(&mut file)?;
-    let mut cells = [0; 512];
+    stdin().take(16_654).read_to_end(&mut file)?;
+    let mut cells = [0; 520];
     let mut out = stdout();
     match calculate(&file, &mut cells) {
         Err(rule) => {
@@ -36,8 +37,14 @@ fn main() -> std::io::Result<ExitCode> {
         Ok(level) => {
             writeln!(out, "level {level}")?;
             let (states, highest) = (file[3] as usize, file[4] as usize);
-            for (k, moment) in cells[..states * highest].iter().enumerate() {
-                writeln!(out, "{} {} {}.{:012}", k / highest + 1, k % highest + 1, moment / ONE, moment % ONE)?;
+            let mut names: Vec<String> = (1..=states).map(|state| state.to_string()).collect();
+            if file[2] == 2 {
+                names.push("start".to_string());
+            }
+            for (name, figures) in names.iter().zip(cells.chunks(highest)) {
+                for (r, figure) in (1..).zip(figures) {
+                    writeln!(out, "{name} {r} {}.{:012}", figure / ONE, figure % ONE)?;
+                }
             }
             Ok(ExitCode::SUCCESS)
         }

@@ -1,6 +1,6 @@
 /* The library called from C for several times: reads a model file from standard input and takes up to eight times, in
- * whole hours and rising, from the command line. For each it prints a line: the time, its level, and the first moment of
- * each state, so that a state's column is a curve over time.
+ * whole hours and rising, from the command line. For each it prints a line: the time, its level, the first moment of
+ * each state and, for a file of version 2, the first start figure, so that a column is a curve over time.
  * Exit status 0 where all is accepted, 1 where it is refused, 2 where something cannot be read or written.
  *
  *     cc -I include examples/library/series.c "$(./build kuldrepso)" -o target/series
@@ -39,13 +39,13 @@ int main(int argc, char **argv)
         fprintf(stderr, "series: refused by row %" PRIu64 " (kuldrepso.h)\n", answer - KULDREPSO_REFUSED);
         return 1;
     }
-    int states = file[3], highest = file[4];
+    int states = file[3], highest = file[4], start = file[2] == 2; /* in version 2 the start follows the states */
     for (size_t k = 0; k < time_count; k++) {
-        const uint64_t *block = cells + k * states * highest;
+        const uint64_t *block = cells + k * (states + start) * highest;
         printf("%" PRIu32 " %" PRIu64, times[k], levels[k]);
-        for (int i = 1; i <= states; i++) {
-            uint64_t moment = block[(i - 1) * highest];
-            printf(" %" PRIu64 ".%012" PRIu64, moment / KULDREPSO_ONE, moment % KULDREPSO_ONE);
+        for (int i = 1; i <= states + start; i++) {
+            uint64_t figure = block[(i - 1) * highest];
+            printf(" %" PRIu64 ".%012" PRIu64, figure / KULDREPSO_ONE, figure % KULDREPSO_ONE);
         }
         putchar('\n');
     }
