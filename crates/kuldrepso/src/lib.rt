@@ -8,12 +8,16 @@ ghost use Rattle.definitions.specs.Moment.{outcome, cellsAfter};
 ghost use Rattle.definitions.specs.Promise.{Promised};
 ghost use Rattle.definitions.specs.Series.{levelsAfter, blocksAfter, AreRuns, SeriesPromised};
 ghost use Rattle.definitions.specs.Remainders.{remaindersOf, numberAfter, WorkedOut};
+ghost use Rattle.definitions.specs.Written.{countOf, bytesAfter, writtenAnswer};
+ghost use Rattle.definitions.specs.Convert.{toVersion2, toVersion1, ThereAndBack};
 ghost use Rattle.kuldrepso.specs.Plain.{plainAnswer, returning, givenOrNone, withNumbers};
 use definitions::Outcome;
 use definitions::Remainders;
 use definitions::Series;
+use definitions::Written;
 
-// Refusal k goes out as this and k. No other answer is near it: the greatest level is 563, and the most times are 8.
+// Refusal k goes out as this and k. No other answer is near it: the greatest level is 563, the most times are 8, and the
+// longest file has 16,653 bytes.
 const REFUSED: u64 = 1_000_000;
 
 // Remainders that are given, and none.
@@ -82,4 +86,34 @@ pub extern "C" fn kuldrepso_remainders(
         Remainders::Nothing => NONE,
         Remainders::Refused(k) => REFUSED + k as u64,
     }
+}
+
+// The answer of a call that writes a file, with the count of bytes for an acceptance.
+fn plain(answer: Written) -> u64
+    ensures { λ r. ⌜ r ≡ plainAnswer (writtenAnswer answer) ⌝ }
+{
+    match answer {
+        Written::Count(count) => count as u64,
+        Written::Refused(k) => REFUSED + k as u64,
+    }
+}
+
+// convert::to_version_2, with the count of bytes for an acceptance and REFUSED + k for refusal k.
+#[no_mangle]
+pub extern "C" fn kuldrepso_to_version_2(file: &[u8], out: &mut [u8]) -> u64
+    ensures answer { λ r. ⌜ r ≡ plainAnswer (countOf (toVersion2 (now (file .entry)) (length (now (out .entry))))) ⌝ }
+    ensures bytes { λ r. ⌜ now (out .exit) ≡ bytesAfter (toVersion2 (now (file .entry)) (length (now (out .entry)))) (now (out .entry)) ⌝ }
+    ensures moved { λ r. ⌜ ThereAndBack (toVersion2 (now (file .entry)) (length (now (out .entry)))) (now (file .entry)) toVersion1 ⌝ }
+{
+    plain(convert::to_version_2(file, out))
+}
+
+// convert::to_version_1, likewise.
+#[no_mangle]
+pub extern "C" fn kuldrepso_to_version_1(file: &[u8], out: &mut [u8]) -> u64
+    ensures answer { λ r. ⌜ r ≡ plainAnswer (countOf (toVersion1 (now (file .entry)) (length (now (out .entry))))) ⌝ }
+    ensures bytes { λ r. ⌜ now (out .exit) ≡ bytesAfter (toVersion1 (now (file .entry)) (length (now (out .entry)))) (now (out .entry)) ⌝ }
+    ensures moved { λ r. ⌜ ThereAndBack (toVersion1 (now (file .entry)) (length (now (out .entry)))) (now (file .entry)) toVersion2 ⌝ }
+{
+    plain(convert::to_version_1(file, out))
 }
