@@ -2,9 +2,9 @@
 """Writes stdin and stdout: the cases that are judged, and the rows that stop each (0: none): the file's
 alone, and the file's with a list of times.
 
-The answers are computed here from the table of document 01 and that of S-3 alone. Where a file is short
-enough for the printed sheet its own answer is also held to the independent reference, which is run as a
-program; it lends 512 cells, so row 13 is this page's own, and so is every answer with a list.
+The answers are computed here from the table of document 01 and those of S-3 and S-5 alone. Where a file is
+short enough for the printed sheet its own answer is also held to the independent reference, which is run as a
+program; it lends 520 cells, so row 13 is this page's own, and so is every answer with a list.
 """
 import os
 import random
@@ -13,17 +13,18 @@ import sys
 
 HERE = os.path.dirname(os.path.abspath(__file__))
 REFERENCE = os.path.join(HERE, '..', '..', 'reference', 'calculator.py')
-SHEET = 16398  # the bytes that the sheet's program reads
-CELLS = 512    # the cells that it lends
+SHEET = 16654  # the bytes that the sheet's program reads
+CELLS = 520    # the cells that it lends
 
 
 def number(value, width=4):
     return value.to_bytes(width, 'big')
 
 
-def model(states=1, highest=1, tolerance=10000, time=1, rewards=None, rates=None, version=1):
-    """A file's bytes; rates holds row after row, the diagonal left out."""
-    body = bytes([version, states, highest]) + number(tolerance) + number(time)
+def model(states=1, highest=1, tolerance=10000, time=1, rewards=None, rates=None, weights=()):
+    """A file's bytes, of version 2 where it has weights; rates holds row after row, the diagonal left out."""
+    body = bytes([2 if weights else 1, states, highest]) + number(tolerance) + number(time)
+    body += b''.join(number(a) for a in weights)
     body += b''.join(number(f) for f in (rewards or [1] * states))
     body += b''.join(number(c) for c in (rates or [0] * (states * (states - 1))))
     return number(len(body), 2) + body
@@ -47,25 +48,28 @@ def row(file, cells, times=None, levels=None):
         return 1
     if big(0, 2) != len(file) - 2:
         return 2
-    if file[2] != 1:
+    if file[2] not in (1, 2):
         return 3
     m, r = file[3], file[4]
     if m == 0 or m > 64:
         return 4
     if r == 0 or r > 8:
         return 5
-    if big(0, 2) != 4 * m * m + 11:
+    weights = m if file[2] == 2 else 0
+    if big(0, 2) != 4 * m * m + 4 * weights + 11:
         return 6
     if big(5) == 0 or big(5) > 100_000_000:
         return 7
     if big(9) == 0 or (times and times[0] == 0):
         return 8
-    rewards = [big(13 + 4 * i) for i in range(m)]
+    if weights and sum(big(13 + 4 * i) for i in range(m)) != 1_000_000:
+        return 16
+    rewards = [big(13 + 4 * (weights + i)) for i in range(m)]
     if max(rewards) > 1_000_000:
         return 9
     if max(rewards) == 0:
         return 10
-    at = 13 + 4 * m
+    at = 13 + 4 * (weights + m)
     sums = [sum(big(at + 4 * ((m - 1) * i + k)) for k in range(m - 1)) for i in range(m)]
     if max(sums) > 10_000_000:
         return 11
@@ -78,7 +82,7 @@ def row(file, cells, times=None, levels=None):
         last, blocks = times[-1], len(times)
     if max(1, max(sums)) * last > 256_000_000:
         return 12
-    if cells < blocks * m * r:
+    if cells < blocks * (m + (1 if weights else 0)) * r:
         return 13
     if times is not None and levels < len(times):
         return 13
@@ -179,10 +183,37 @@ for times in ((), (300,) * 9, rising[::-1], (0,) * 9):
     add(file, put(file, B_RATES, number(10_000_001)), put(file, B_REWARDS, number(0) * 2), put(file, B_REWARDS, number(1_000_001)), times=times, **held)
     add(put(file, 9, number(0)), put(file, 5, number(0)), file[:-1], b'', times=times, **held)
 
+# version 2: its length, its version, its weights' sum up to the largest, and its room
+START = model(2, 2, 100_000_000, rewards=[1, 0], rates=[1_000_000] * 2, weights=[250_000, 750_000])
+START_REWARDS = 21
+add(START, put(START, 2, b'\x01'), put(START, 2, b'\x03'), put(START, 2, b'\x00'), put(B, 2, b'\x02'), START[:-1])
+many = dict(states=64, highest=8, rates=[(7 * k) % 1000 for k in range(64 * 63)], rewards=range(64))
+for weights in ([999_999], [1_000_000], [1_000_001], [0], [2**32 - 1]):
+    add(model(weights=weights))
+for weights in ([0, 1_000_000], [1_000_000, 0], [1, 999_999], [1, 1_000_000], [2**32 - 1, 1_000_001], [2**31, 2**31 + 1_000_000]):
+    add(put(START, 13, b''.join(map(number, weights))))
+for weights in ([2**32 - 1] * 64, [2**26] * 63 + [2**26 + 1_000_000]):
+    add(model(weights=weights, **many))
+for cells in (3, 4, 5, 6):
+    add(START, cells=cells)
+full = model(weights=[15_625] * 64, **many)
+for cells in (512, 519, 520):
+    add(full, cells=cells)
+for cells in (4159, 4160):
+    add(full, cells=cells, times=rising[:8])
+for cells in (11, 12):
+    add(START, cells=cells, times=(1, 2))
+add(full + b'\x00', measured(full + b'\x00'))
+# the order of 16: before it 7 and 8, after it 9 to 13, 14 and 15
+off = put(START, 13, number(250_001))
+for at, part in ((5, number(0)), (9, number(0)), (9, number(257)), (START_REWARDS, number(1_000_001)), (START_REWARDS, number(0) * 2), (START_REWARDS + 8, number(10_000_001))):
+    for times in ((1,), (0, 1), (), (2, 1), (257,)):
+        add(put(off, at, part), put(START, at, part), times=times, cells=5)
+
 # bytes changed at random
 random.seed(1)
-for _ in range(150):
-    file = random.choice([A, B, model(3, 2, rates=[1, 0, 2, 3, 0, 4])])
+for _ in range(300):
+    file = random.choice([A, B, START, model(3, 2, rates=[1, 0, 2, 3, 0, 4]), model(3, 2, rates=[1, 0, 2, 3, 0, 4], weights=[500_000, 0, 500_000])])
     for _ in range(random.choice([1, 1, 2, 3])):
         file = put(file, random.randrange(len(file)), bytes([random.choice([0, 1, 2, 3, random.randrange(256)])]))
     times = [random.choice([1, 2, 3, 200, 256, 257, 258, random.randrange(300)]) for _ in range(random.choice([1, 2, 2, 3, 4, 8, 9]))]

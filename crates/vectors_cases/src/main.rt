@@ -8,7 +8,7 @@ use definitions::Sizes;
 use libc::STDIN_FILENO;
 use libc::STDOUT_FILENO;
 
-// A file with M states has 4 * M * M + 13 bytes.
+// A version 1 file with M states has 4 * M * M + 13 bytes.
 fn main() {
     let mut two = [0u8; 29];
     let count = io::read_full(STDIN_FILENO, &mut two);
