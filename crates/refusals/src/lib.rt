@@ -4,10 +4,12 @@
 // A file is a slice of any length, and nothing is asked of it. One that is accepted is framed (`Framed` in
 // the crate laws), so that the crate reader can read what it states.
 ghost use mathlib.Core.Path.{_≡_};
+ghost use mathlib.Core.Bool.{_||_};
 ghost use mathlib.Core.List.{_++_};
 ghost use Prim.Native.Nat.{_-_, _*_, _≤_, _<_, _^_};
+ghost use lib.Dec.{eqb};
 ghost use lib.ListN.{length};
-ghost use Rattle.definitions.specs.File.{stateCount, highestMoment};
+ghost use Rattle.definitions.specs.File.{stateCount, highestMoment, timeField};
 ghost use Rattle.definitions.specs.Chain.{modelOf, uniformRate};
 ghost use Rattle.definitions.specs.Rules.{outside, beyond, fittingLength, framing, misweighted, startsAtZero, quantities, fallsUpTo, listing, lastTime, jumps, room, blockSize, firstHeld, judgedBy, fileJudgement, judgement, seriesJudgement, verdict};
 ghost use Rattle.laws.specs.Acceptance.{Framed};
@@ -100,6 +102,17 @@ fn starts_at_zero(times: &[u32]) -> bool
     times[0] == 0
 }
 
+// Row 8: the file's time is 0, or a list of times starts with 0.
+fn without_time(file: &[u8], times: &[u32]) -> bool
+    requires { ⌜ 13 ≤ length (now file) ⌝ }
+    ensures { λ r. ⌜ r ≡ (eqb (timeField (now (file .entry))) 0 || startsAtZero (now (times .entry))) ⌝ }
+{
+    if reader::time(file) == 0 {
+        return true;
+    }
+    starts_at_zero(times)
+}
+
 // Row 16: the file holds a starting distribution, and its weights do not sum to 1,000,000.
 fn misweighted(file: &[u8]) -> bool
     requires { ⌜ Framed (now file) ⌝ }
@@ -119,10 +132,7 @@ fn judge_quantities(file: &[u8], times: &[u32]) -> Rated
     if outside(reader::tolerance(file), MOST_TOLERANCE) {
         return Rated::Refused(7);
     }
-    if reader::time(file) == 0 {
-        return Rated::Refused(8);
-    }
-    if starts_at_zero(times) {
+    if without_time(file, times) {
         return Rated::Refused(8);
     }
     if misweighted(file) {
