@@ -3,11 +3,11 @@ use Prim.Native.Nat.{ℕ, zero, suc, _+_, _*_, _-_, _≤_, _<_, _^_}
 use native.Mathlib.Omega.{arith}
 use native.Mathlib.Numerals.{add-one}
 use mathlib.Core.Path.{_≡_, refl, sym, _∙_, ap, ap₂, subst}
-use mathlib.Core.Bool.{false}
+use mathlib.Core.Bool.{true, false}
 use mathlib.Core.List.{List, [], _∷_, _++_, append-assoc, append-nil}
 use lib.ListN.{length, getD, take, drop, replicate, length-replicate, replicate-append-replicate}
 use lib.Seq.{ext-getD}
-use borrow.Author.Tests.{le-ltb, ltb-false}
+use borrow.Author.Tests.{lt-ltb, le-ltb, ltb-false}
 use Rattle.definitions.specs.Sums.{sum, largest, anyAbove, firsts}
 use Rattle.definitions.specs.Bytes.{bytesOf}
 use Rattle.definitions.specs.File.{lengthField, version, stateCount, distributions, weightField, rewardsAt}
@@ -44,12 +44,19 @@ sum-first n a low zeros =
     let first : sum 1 a ≡ a 0 = sum-suc 0 a ∙ omega (arith, sum-zero a) in
     ap (λ (k : ℕ). sum k a) (sym whole) ∙ sum-split 1 (n - 1) a ∙ omega (arith, first, later, sum-constant (n - 1) 0)
 
--- row 17 finds none where all are 0, and where it finds none all are 0
-none-found : (n : ℕ) (a : ℕ → ℕ) → ((i : ℕ) → i < n → a i ≡ 0) → anyAbove 0 n a ≡ false
-none-found n a zeros = any-largest 0 n a ∙ le-ltb 0 (largest n a) (largest-le n 0 a (λ i h. omega (arith, zeros i h)))
+-- row 17, of n weights: it holds where one but the first is above 0
+pub weight-found : (n : ℕ) (a : ℕ → ℕ) (i : ℕ) → 1 ≤ i → i < n → 0 < a i → anyAbove 0 (n - 1) (λ k. a (k + 1)) ≡ true
+weight-found n a i low high some =
+    let place : i - 1 + 1 ≡ i = omega arith in
+    any-largest 0 (n - 1) (λ k. a (k + 1)) ∙ lt-ltb 0 (largest (n - 1) (λ k. a (k + 1))) (omega (arith, some, ap a place, le-largest (n - 1) (λ k. a (k + 1)) (i - 1) (omega arith)))
 
-all-zero : (n : ℕ) (a : ℕ → ℕ) → anyAbove 0 n a ≡ false → (i : ℕ) → i < n → a i ≡ 0
-all-zero n a none i h = omega (arith, le-largest n a i h, ltb-false 0 (largest n a) (sym (any-largest 0 n a) ∙ none))
+-- and passes where all but the first are 0
+pub none-found : (n : ℕ) (a : ℕ → ℕ) → ((i : ℕ) → 1 ≤ i → i < n → a i ≡ 0) → anyAbove 0 (n - 1) (λ k. a (k + 1)) ≡ false
+none-found n a zeros = any-largest 0 (n - 1) (λ k. a (k + 1)) ∙ le-ltb 0 (largest (n - 1) (λ k. a (k + 1))) (largest-le (n - 1) 0 (λ k. a (k + 1)) (λ k h. omega (arith, zeros (k + 1) (omega arith) (omega arith))))
+
+-- and so they are where it passes
+all-zero : (n : ℕ) (a : ℕ → ℕ) → anyAbove 0 (n - 1) (λ k. a (k + 1)) ≡ false → (i : ℕ) → i < n - 1 → a (i + 1) ≡ 0
+all-zero n a none i h = omega (arith, le-largest (n - 1) (λ k. a (k + 1)) i h, ltb-false 0 (largest (n - 1) (λ k. a (k + 1))) (sym (any-largest 0 (n - 1) (λ k. a (k + 1))) ∙ none))
 
 getD-zeros : (n i : ℕ) → _≡_ {A = ℕ} (getD (replicate n 0) i 0) 0
 getD-zeros zero i = refl
@@ -186,7 +193,7 @@ module _ (s : List ℕ) (bytes : (i : ℕ) → getD s i 0 < 256) where
 
     none-elsewhere : NoneHold (elsewhere (modelOf there))
     unfolding elsewhere
-    none-elsewhere = (none-found (stateCount there - 1) (λ i. weightField there (i + 1)) (λ i h. weight-later i (omega (arith, h, told-there .states))), tt)
+    none-elsewhere = (none-found (stateCount there) (weightField there) (λ i a b. let place : i - 1 + 1 ≡ i = omega arith in ap (weightField there) (sym place) ∙ weight-later (i - 1) (omega (arith, a, b, told-there .states))), tt)
 
     -- moved back it is s
     pub back-from-2 : movedTo1 (movedTo2 s) ≡ s
@@ -279,7 +286,7 @@ module _ (s : List ℕ) (bytes : (i : ℕ) → getD s i 0 < 256) where
       -- row 17: those of the later states are 0
       zero-later : (i : ℕ) → i < M - 1 → weightField s (i + 1) ≡ 0
       unfolding elsewhere
-      zero-later = all-zero (M - 1) (λ i. weightField s (i + 1)) (first .0)
+      zero-later = all-zero M (weightField s) (first .0)
 
       -- and by row 16 they sum to 1,000,000: so they are 1,000,000 and then zeros
       weight-is : (i : ℕ) → i < M → weightField s i ≡ getD (onFirst M) i 0

@@ -1,0 +1,130 @@
+// A model file moved to the other version (document 02, S-5): a version 1 file to version 2, with all weight
+// on state 1, and such a version 2 file back to version 1.
+//
+// The moved file is written at the start of what is lent. A refusal writes nothing.
+ghost use mathlib.Core.Path.{_≡_};
+ghost use mathlib.Core.List.{[], _∷_, _++_};
+ghost use Prim.Native.Nat.{_+_, _-_, _*_, _≤_};
+ghost use lib.ListN.{length, take, drop};
+ghost use Rattle.definitions.specs.Sums.{anyAbove};
+ghost use Rattle.definitions.specs.Bytes.{bytesOf};
+ghost use Rattle.definitions.specs.File.{stateCount, weightField};
+ghost use Rattle.definitions.specs.Chain.{modelOf};
+ghost use Rattle.definitions.specs.Rules.{accepted, fileRows, judgedBy, fileJudgement, verdict};
+ghost use Rattle.definitions.specs.Written.{countOf, bytesAfter, writtenAnswer};
+ghost use Rattle.definitions.specs.Convert.{movedTo2, movedTo1, elsewhere, toVersion2, toVersion1, ThereAndBack};
+ghost use Rattle.laws.specs.Acceptance.{Framed};
+ghost use Rattle.writing.specs.Puts.{Puts};
+ghost use Rattle.writing.specs.Printed.{Printed};
+use definitions::Judgement;
+use definitions::Written;
+
+// The weight of a state that has all of it.
+const ALL_WEIGHT: u64 = 1_000_000;
+
+// Whether a state other than the first has weight.
+fn weight_elsewhere(file: &[u8]) -> bool
+    requires { ⌜ Framed (now file) ⌝ }
+    ensures { λ r. ⌜ r ≡ anyAbove 0 (stateCount (now (file .entry)) - 1) (λ i. weightField (now (file .entry)) (i + 1)) ⌝ }
+{
+    let states = reader::state_count(file);
+    let weights = reader::weights_of(file);
+    for i in 1..states {
+        if weights[i] > 0 {
+            return true;
+        }
+    }
+    false
+}
+
+// Row 17, alone.
+fn judge_start(file: &[u8]) -> Judgement
+    requires { ⌜ Framed (now file) ⌝ }
+    ensures { λ r. ⌜ verdict r ≡ judgedBy (elsewhere (modelOf (now (file .entry)))) ⌝ }
+{
+    if weight_elsewhere(file) {
+        return Judgement::Refused(17);
+    }
+    Judgement::Accepted
+}
+
+// Rows 1 to 12 and 16 of a version 2 file, and then row 17.
+fn judge_back(file: &[u8]) -> Judgement
+    ensures { λ r. ⌜ verdict r ≡ judgedBy (fileRows 2 2 (now (file .entry)) ++ elsewhere (modelOf (now (file .entry)))) ⌝ }
+{
+    let judgement = refusals::judge_file(file, 2, 2);
+    match judgement {
+        Judgement::Refused(k) => Judgement::Refused(k),
+        Judgement::Accepted => judge_start(file),
+    }
+}
+
+// The first 13 bytes of the moved file: its length field, its version, and bytes 3 to 12 as the file has them.
+fn put_header(file: &[u8], out: &mut [u8], later: u64, version: u8) -> usize
+    requires { ⌜ (13 ≤ length (now file)) × (13 ≤ length (now out)) ⌝ }
+    ensures { λ r. ⌜ Puts (bytesOf 2 later ++ (version ∷ []) ++ take 10 (drop 3 (now (file .entry)))) 13 0 (now (out .entry)) (now (out .exit)) r ⌝ }
+{
+    let second = writing::put_big(out, 0, later, 2);
+    let third = writing::put(out, second, version);
+    writing::put_word(out, third, &file[3..13])
+}
+
+// A version 1 file in version 2: all weight on state 1, none on the others, and the rest as the file has it.
+fn put_version_2(file: &[u8], out: &mut [u8]) -> usize
+    requires { ⌜ fileJudgement 1 1 (now file) ≡ accepted tt ⌝ }
+    requires { ⌜ length (now file) + 4 * stateCount (now file) ≤ length (now out) ⌝ }
+    ensures { λ r. ⌜ Printed (movedTo2 (now (file .entry))) (now (out .entry)) (now (out .exit)) r ⌝ }
+{
+    let states = reader::state_count(file);
+    let later = reader::length_field(file) + 4 * states as u64;
+    let first = put_header(file, out, later, 2);
+    let others = writing::put_big(out, first, ALL_WEIGHT, 4);
+    let rewards = writing::put_zeros(out, others, 4 * (states - 1));
+    writing::put_word(out, rewards, &file[13..])
+}
+
+// A version 2 file in version 1: without its weights, and the rest as the file has it.
+fn put_version_1(file: &[u8], out: &mut [u8]) -> usize
+    requires { ⌜ fileJudgement 2 2 (now file) ≡ accepted tt ⌝ }
+    requires { ⌜ length (now file) ≤ length (now out) + 4 * stateCount (now file) ⌝ }
+    ensures { λ r. ⌜ Printed (movedTo1 (now (file .entry))) (now (out .entry)) (now (out .exit)) r ⌝ }
+{
+    let states = reader::state_count(file);
+    let later = reader::length_field(file) - 4 * states as u64;
+    let rewards = put_header(file, out, later, 1);
+    writing::put_word(out, rewards, &file[13 + 4 * states..])
+}
+
+// The file, which is to be of version 1, in version 2: the count of its bytes, or the number of the first row
+// that holds. Moved back, it is the file again.
+pub fn to_version_2(file: &[u8], out: &mut [u8]) -> Written
+    ensures answer { λ o. ⌜ writtenAnswer o ≡ countOf (toVersion2 (now (file .entry)) (length (now (out .entry)))) ⌝ }
+    ensures bytes { λ o. ⌜ now (out .exit) ≡ bytesAfter (toVersion2 (now (file .entry)) (length (now (out .entry)))) (now (out .entry)) ⌝ }
+    ensures moved { λ o. ⌜ ThereAndBack (toVersion2 (now (file .entry)) (length (now (out .entry)))) (now (file .entry)) toVersion1 ⌝ }
+{
+    let judgement = refusals::judge_file(file, 1, 1);
+    if let Judgement::Refused(k) = judgement {
+        return Written::Refused(k);
+    }
+    if out.len() < file.len() + 4 * reader::state_count(file) {
+        return Written::Refused(13);
+    }
+    Written::Count(put_version_2(file, out))
+}
+
+// The file, which is to be of version 2 with all weight on state 1, in version 1: the count of its bytes, or the
+// number of the first row that holds. Moved back, it is the file again.
+pub fn to_version_1(file: &[u8], out: &mut [u8]) -> Written
+    ensures answer { λ o. ⌜ writtenAnswer o ≡ countOf (toVersion1 (now (file .entry)) (length (now (out .entry)))) ⌝ }
+    ensures bytes { λ o. ⌜ now (out .exit) ≡ bytesAfter (toVersion1 (now (file .entry)) (length (now (out .entry)))) (now (out .entry)) ⌝ }
+    ensures moved { λ o. ⌜ ThereAndBack (toVersion1 (now (file .entry)) (length (now (out .entry)))) (now (file .entry)) toVersion2 ⌝ }
+{
+    let judgement = judge_back(file);
+    if let Judgement::Refused(k) = judgement {
+        return Written::Refused(k);
+    }
+    if out.len() < file.len() - 4 * reader::state_count(file) {
+        return Written::Refused(13);
+    }
+    Written::Count(put_version_1(file, out))
+}
