@@ -12,18 +12,18 @@ use Rattle.definitions.specs.Sums.{sum, largest, anyAbove, firsts}
 use Rattle.definitions.specs.Bytes.{bytesOf}
 use Rattle.definitions.specs.File.{lengthField, version, stateCount, distributions, weightField, rewardsAt}
 use Rattle.definitions.specs.Chain.{modelOf}
-use Rattle.definitions.specs.Rules.{Answer, accepted, refused, Rows, misweighted, fileRows, fileJudgement}
+use Rattle.definitions.specs.Rules.{Answer, accepted, refused, Rows, misweighted, fileRows, judgedBy, fileJudgement}
 use Rattle.definitions.specs.Weights.{MILLION}
 use Rattle.definitions.specs.Fields.{Fields, numbersAt, wordsOf, fieldsOf, fileOf}
 use Rattle.definitions.specs.Written.{fileFor}
 use Rattle.definitions.specs.Convert.{inVersion2, inVersion1, movedTo2, movedTo1, elsewhere, toVersion2, toVersion1, Moved, ThereAndBack}
 use Rattle.laws.specs.SumLaws.{sum-zero, sum-suc, sum-same, sum-constant, sum-split, any-largest, largest-le, le-largest}
 use Rattle.laws.specs.ListLaws.{length-firsts, getD-firsts}
-use Rattle.laws.specs.RuleLaws.{NoneHold, none-hold, none-in-parts, none-together, all-pass, agree}
+use Rattle.laws.specs.RuleLaws.{andThen, in-parts, NoneHold, none-hold, none-in-parts, none-together, all-pass, agree}
 use Rattle.laws.specs.RowLaws.{no-start, with-start}
 use Rattle.laws.specs.ChainLaws.{version-2, other-version}
 use Rattle.laws.specs.Acceptance.{accepted-model}
-use Rattle.laws.specs.WrittenLaws.{is-written, was-written}
+use Rattle.laws.specs.WrittenLaws.{stopped-by-table, stopped-by-room, is-written, was-written}
 use Rattle.laws.specs.WordLaws.{words-first}
 use Rattle.laws.specs.FieldLaws.{Whole, inVersion, numbers-in-version, bytes-in-version, file-of-fields, Fits, length-file}
 use Rattle.laws.specs.MovedLaws.{withStart, Carried, in-version-fits, carried}
@@ -319,6 +319,42 @@ module _ (s : List ℕ) (bytes : (i : ℕ) → getD s i 0 < 256) where
             same-moments = told-back .moments;
             returns = returned-back;
           }
+
+-- what the calls answer: to version 2, by rows 1 to 12 and 16
+pub refused-there : (s : List ℕ) (lent k : ℕ) → fileJudgement 1 1 s ≡ refused k → toVersion2 s lent ≡ refused k
+unfolding toVersion2 fileJudgement
+refused-there s lent k stopped = stopped-by-table (fileRows 1 1 s) (movedTo2 s) lent k stopped
+
+-- to version 1, by these and then row 17
+pub back-in-parts : (s : List ℕ) → judgedBy (fileRows 2 2 s ++ elsewhere (modelOf s)) ≡ andThen (fileJudgement 2 2 s) (judgedBy (elsewhere (modelOf s)))
+unfolding fileJudgement
+back-in-parts s = in-parts (fileRows 2 2 s) (elsewhere (modelOf s)) tt tt
+
+pub passed-back : (s : List ℕ) → judgedBy (fileRows 2 2 s ++ elsewhere (modelOf s)) ≡ accepted tt → fileJudgement 2 2 s ≡ accepted tt
+unfolding fileJudgement
+passed-back s h = all-pass (fileRows 2 2 s) tt (none-in-parts (fileRows 2 2 s) (elsewhere (modelOf s)) (none-hold (fileRows 2 2 s ++ elsewhere (modelOf s)) (tt {0}) tt h) .0)
+
+pub refused-back : (s : List ℕ) (lent k : ℕ) → judgedBy (fileRows 2 2 s ++ elsewhere (modelOf s)) ≡ refused k → toVersion1 s lent ≡ refused k
+unfolding toVersion1
+refused-back s lent k stopped = stopped-by-table (fileRows 2 2 s ++ elsewhere (modelOf s)) (movedTo1 s) lent k stopped
+
+-- where the rows pass, by the bytes that are lent
+module _ (s : List ℕ) (bytes : (i : ℕ) → getD s i 0 < 256) (lent : ℕ) where
+  pub no-room-there : fileJudgement 1 1 s ≡ accepted tt → lent < length s + 4 * stateCount s → toVersion2 s lent ≡ refused 13
+  unfolding toVersion2 fileJudgement
+  no-room-there passed few = stopped-by-room (fileRows 1 1 s) (movedTo2 s) lent passed (omega (arith, few, length-there s bytes passed))
+
+  pub written-there : fileJudgement 1 1 s ≡ accepted tt → length s + 4 * stateCount s ≤ lent → toVersion2 s lent ≡ accepted (movedTo2 s)
+  unfolding toVersion2 fileJudgement
+  written-there passed enough = is-written (fileRows 1 1 s) (movedTo2 s) lent passed (omega (arith, enough, length-there s bytes passed))
+
+  pub no-room-back : judgedBy (fileRows 2 2 s ++ elsewhere (modelOf s)) ≡ accepted tt → lent < length s - 4 * stateCount s → toVersion1 s lent ≡ refused 13
+  unfolding toVersion1
+  no-room-back passed few = stopped-by-room (fileRows 2 2 s ++ elsewhere (modelOf s)) (movedTo1 s) lent passed (omega (arith, few, length-back s bytes (passed-back s passed)))
+
+  pub written-back : judgedBy (fileRows 2 2 s ++ elsewhere (modelOf s)) ≡ accepted tt → length s - 4 * stateCount s ≤ lent → toVersion1 s lent ≡ accepted (movedTo1 s)
+  unfolding toVersion1
+  written-back passed enough = is-written (fileRows 2 2 s ++ elsewhere (modelOf s)) (movedTo1 s) lent passed (omega (arith, enough, length-back s bytes (passed-back s passed)))
 
 -- "there and back returns the same bytes": of every answer of the calls
 module _ (s : List ℕ) (bytes : (i : ℕ) → getD s i 0 < 256) (lent : ℕ) where
