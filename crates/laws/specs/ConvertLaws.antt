@@ -235,6 +235,9 @@ module _ (s : List ℕ) (bytes : (i : ℕ) → getD s i 0 < 256) where
     all-held : distributions s * M ≡ M
     all-held = ap (λ (d : ℕ). d * M) (version-2 s is-2) ∙ omega arith
 
+    pub size-2 : length s ≡ 4 * (M * M) + 4 * M + 13
+    size-2 = omega (arith, whole-2 .size, all-held)
+
     -- the moved file
     abbrev back : List ℕ
     back = fileOf (inVersion 1 [] (fieldsOf s))
