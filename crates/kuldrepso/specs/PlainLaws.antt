@@ -10,7 +10,9 @@ use Rattle.definitions.specs.Chain.{modelOf}
 use Rattle.definitions.specs.Rules.{Answer, accepted, refused, seriesJudgement}
 use Rattle.definitions.specs.Moment.{modelLevel, outcome}
 use Rattle.definitions.specs.Remainders.{Maybe, none, given}
-use Rattle.laws.specs.Acceptance.{accepted-file, accepted-series}
+use Rattle.definitions.specs.Written.{countOf}
+use Rattle.definitions.specs.Convert.{ThereAndBack}
+use Rattle.laws.specs.Acceptance.{length-max, accepted-model, accepted-file, accepted-series}
 use Rattle.laws.specs.RuleLaws.{accepted-is-no-refusal}
 use Rattle.laws.specs.MomentLaws.{level-range, level-accepted, outcome-accepted}
 use Rattle.kuldrepso.specs.Plain.{refusalsFrom, plainAnswer, returning, givenOrNone, meant}
@@ -67,3 +69,14 @@ unfolding meant plainAnswer
 remainders-meant (accepted (given x)) = refl
 remainders-meant (accepted none) = refl
 remainders-meant (refused k) = answer-meant (refused k) (λ n e. absurd (accepted-is-no-refusal n k (sym e)))
+
+-- a moved file goes out as its count of bytes, at most 16,653
+pub count-max : (a : Answer (List ℕ)) (s : List ℕ) (back : List ℕ → ℕ → Answer (List ℕ)) → ThereAndBack a s back → (n : ℕ) → countOf a ≡ accepted n → n ≤ 16653
+count-max (accepted t) s back moved n e =
+    let number : length t ≡ n = cc in
+    omega (arith, number, length-max t (accepted-model 1 2 t (moved .accepts) .framed))
+count-max (refused k) s back moved n e = absurd (accepted-is-no-refusal n k (sym e))
+
+-- so the number tells the answer of a move
+pub moved-meant : (a : Answer (List ℕ)) (s : List ℕ) (back : List ℕ → ℕ → Answer (List ℕ)) → ThereAndBack a s back → meant (plainAnswer (countOf a)) ≡ countOf a
+moved-meant a s back moved = answer-meant (countOf a) (λ n e. omega (arith, count-max a s back moved n e))

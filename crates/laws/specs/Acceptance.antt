@@ -1,7 +1,7 @@
 -- What acceptance tells of a file.
 use Prim.Native.Nat.{ℕ, zero, suc, _+_, _*_, _-_, _≤_, _<_}
 use native.Mathlib.Omega.{arith}
-use native.Mathlib.Nat.{le-refl, mul-pos, mul-le-mul, mul-le-mul-left}
+use native.Mathlib.Nat.{le-refl, mul-pos, mul-le-mul, mul-le-mul-left, mul-le-mul-right}
 use native.Mathlib.Decide.{ℕ-discrete}
 use mathlib.Core.Path.{_≡_, sym, _∙_, ap}
 use mathlib.Core.Bool.{false, not}
@@ -17,7 +17,7 @@ use Rattle.definitions.specs.Series.{modelAt}
 use Rattle.laws.specs.SumLaws.{any-largest}
 use Rattle.laws.specs.RuleLaws.{andThen, in-parts, NoneHold, none-hold, accepted-value, none-in-parts}
 use Rattle.laws.specs.RowLaws.{neither, in-range, with-a-time, weights-by}
-use Rattle.laws.specs.ChainLaws.{distributions-max, rate-at, rate-pos, row-sums-to-rate, reward-le-largest}
+use Rattle.laws.specs.ChainLaws.{distributions-max, square-max, rate-at, rate-pos, row-sums-to-rate, reward-le-largest}
 use Rattle.laws.specs.VectorLaws.{Stochastic}
 
 -- two numbers that do not differ
@@ -37,6 +37,12 @@ pub record Framed (s : List ℕ) : Type 0 where
   pub states-min : 1 ≤ stateCount s
   pub states-max : stateCount s ≤ 64
   pub size : length s ≡ 4 * stateCount s * stateCount s + 4 * (distributions s * stateCount s) + 13
+
+-- a framed file has at most 16,653 bytes
+pub length-max : (s : List ℕ) → Framed s → length s ≤ 16653
+length-max s f =
+    let square : stateCount s * stateCount s ≤ 64 * 64 = square-max (stateCount s) 64 (f .states-max) in
+    omega (arith, f .size, square, mul-le-mul-right (stateCount s) (distributions-max s), f .states-max)
 
 -- a block has at most 65 rows of 8 cells
 pub block-max : (s : List ℕ) → Framed s → highestMoment s ≤ 8 → blockSize s ≤ 520

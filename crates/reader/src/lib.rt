@@ -204,13 +204,21 @@ pub fn max_reward(file: &[u8]) -> u64
 
 // 5. The rows of rates.
 
-// The part of the file where state i's row of rates starts: after M rewards and i rows of M - 1 rates.
+// Where row i of the rates starts: after M rewards and i rows of M - 1 rates.
+fn row_at(file: &[u8], i: usize) -> usize
+    requires { ⌜ Framed (now file) × (i < stateCount (now file)) ⌝ }
+    ensures { λ r. ⌜ r ≡ rowAt (now (file .entry)) i ⌝ }
+{
+    let states = state_count(file);
+    rewards_at(file) + 4 * states + 4 * (states - 1) * i
+}
+
+// The part of the file where state i's row of rates starts.
 fn row_of(file: &[u8], i: usize) -> &[u8]
     requires { ⌜ Framed (now file) × (i < stateCount (now file)) ⌝ }
     ensures { λ r. ⌜ now r ≡ drop (rowAt (now (file .entry)) i) (now (file .entry)) ⌝ }
 {
-    let states = state_count(file);
-    let at = rewards_at(file) + 4 * states + 4 * (states - 1) * i;
+    let at = row_at(file, i);
     &file[at..]
 }
 
