@@ -5,14 +5,13 @@
 ghost use mathlib.Core.Path.{_≡_};
 ghost use mathlib.Core.List.{[], _∷_, _++_};
 ghost use Prim.Native.Nat.{_+_, _-_, _*_, _≤_};
-ghost use lib.ListN.{length, take, drop};
+ghost use lib.ListN.{length, take, drop, replicate};
 ghost use Rattle.definitions.specs.Sums.{anyAbove};
 ghost use Rattle.definitions.specs.Bytes.{bytesOf};
 ghost use Rattle.definitions.specs.File.{stateCount, weightField};
-ghost use Rattle.definitions.specs.Chain.{modelOf};
-ghost use Rattle.definitions.specs.Rules.{accepted, fileRows, judgedBy, fileJudgement, verdict};
+ghost use Rattle.definitions.specs.Rules.{accepted, fileJudgement};
 ghost use Rattle.definitions.specs.Written.{countOf, bytesAfter, writtenAnswer};
-ghost use Rattle.definitions.specs.Convert.{movedTo2, movedTo1, elsewhere, toVersion2, toVersion1, ThereAndBack};
+ghost use Rattle.definitions.specs.Convert.{movedTo2, movedTo1, toVersion2, toVersion1, ThereAndBack};
 ghost use Rattle.laws.specs.Acceptance.{Framed};
 ghost use Rattle.writing.specs.Puts.{Puts};
 ghost use Rattle.writing.specs.Printed.{Printed};
@@ -22,7 +21,7 @@ use definitions::Written;
 // The weight of a state that has all of it.
 const ALL_WEIGHT: u64 = 1_000_000;
 
-// Whether a state other than the first has weight.
+// Row 17: whether a state other than the first has weight.
 fn weight_elsewhere(file: &[u8]) -> bool
     requires { ⌜ Framed (now file) ⌝ }
     ensures { λ r. ⌜ r ≡ anyAbove 0 (stateCount (now (file .entry)) - 1) (λ i. weightField (now (file .entry)) (i + 1)) ⌝ }
@@ -37,28 +36,6 @@ fn weight_elsewhere(file: &[u8]) -> bool
     false
 }
 
-// Row 17, alone.
-fn judge_start(file: &[u8]) -> Judgement
-    requires { ⌜ Framed (now file) ⌝ }
-    ensures { λ r. ⌜ verdict r ≡ judgedBy (elsewhere (modelOf (now (file .entry)))) ⌝ }
-{
-    if weight_elsewhere(file) {
-        return Judgement::Refused(17);
-    }
-    Judgement::Accepted
-}
-
-// Rows 1 to 12 and 16 of a version 2 file, and then row 17.
-fn judge_back(file: &[u8]) -> Judgement
-    ensures { λ r. ⌜ verdict r ≡ judgedBy (fileRows 2 2 (now (file .entry)) ++ elsewhere (modelOf (now (file .entry)))) ⌝ }
-{
-    let judgement = refusals::judge_file(file, 2, 2);
-    match judgement {
-        Judgement::Refused(k) => Judgement::Refused(k),
-        Judgement::Accepted => judge_start(file),
-    }
-}
-
 // The first 13 bytes of the moved file: its length field, its version, and bytes 3 to 12 as the file has them.
 fn put_header(file: &[u8], out: &mut [u8], later: u64, version: u8) -> usize
     requires { ⌜ (13 ≤ length (now file)) × (13 ≤ length (now out)) ⌝ }
@@ -69,7 +46,16 @@ fn put_header(file: &[u8], out: &mut [u8], later: u64, version: u8) -> usize
     writing::put_word(out, third, &file[3..13])
 }
 
-// A version 1 file in version 2: all weight on state 1, none on the others, and the rest as the file has it.
+// The weights of so many states: all of it on the first, none on the others.
+fn put_weights(out: &mut [u8], at: usize, states: usize) -> usize
+    requires { ⌜ (1 ≤ states) × (states ≤ 64) × (at + 4 * states ≤ length (now out)) ⌝ }
+    ensures { λ r. ⌜ Puts (bytesOf 4 1000000 ++ replicate (4 * (states - 1)) 0) (4 * states) at (now (out .entry)) (now (out .exit)) r ⌝ }
+{
+    let others = writing::put_big(out, at, ALL_WEIGHT, 4);
+    writing::put_zeros(out, others, 4 * (states - 1))
+}
+
+// A version 1 file in version 2: with all weight on state 1, and the rest as the file has it.
 fn put_version_2(file: &[u8], out: &mut [u8]) -> usize
     requires { ⌜ fileJudgement 1 1 (now file) ≡ accepted tt ⌝ }
     requires { ⌜ length (now file) + 4 * stateCount (now file) ≤ length (now out) ⌝ }
@@ -77,9 +63,8 @@ fn put_version_2(file: &[u8], out: &mut [u8]) -> usize
 {
     let states = reader::state_count(file);
     let later = reader::length_field(file) + 4 * states as u64;
-    let first = put_header(file, out, later, 2);
-    let others = writing::put_big(out, first, ALL_WEIGHT, 4);
-    let rewards = writing::put_zeros(out, others, 4 * (states - 1));
+    let weights = put_header(file, out, later, 2);
+    let rewards = put_weights(out, weights, states);
     writing::put_word(out, rewards, &file[13..])
 }
 
@@ -119,11 +104,16 @@ pub fn to_version_1(file: &[u8], out: &mut [u8]) -> Written
     ensures bytes { λ o. ⌜ now (out .exit) ≡ bytesAfter (toVersion1 (now (file .entry)) (length (now (out .entry)))) (now (out .entry)) ⌝ }
     ensures moved { λ o. ⌜ ThereAndBack (toVersion1 (now (file .entry)) (length (now (out .entry)))) (now (file .entry)) toVersion2 ⌝ }
 {
-    let judgement = judge_back(file);
-    if let Judgement::Refused(k) = judgement {
-        return Written::Refused(k);
+    let judgement = refusals::judge_file(file, 2, 2);
+    if let Judgement::Refused(row) = judgement {
+        return Written::Refused(row);
     }
-    if out.len() < file.len() - 4 * reader::state_count(file) {
+    let elsewhere = weight_elsewhere(file);
+    let short = out.len() < file.len() - 4 * reader::state_count(file);
+    if elsewhere {
+        return Written::Refused(17);
+    }
+    if short {
         return Written::Refused(13);
     }
     Written::Count(put_version_1(file, out))

@@ -4,7 +4,7 @@ use native.Mathlib.Omega.{arith}
 use native.Mathlib.Numerals.{add-one}
 use mathlib.Core.Path.{_≡_, refl, sym, _∙_, ap, ap₂, subst}
 use mathlib.Core.Bool.{true, false}
-use mathlib.Core.List.{List, [], _∷_, _++_, append-assoc, append-nil}
+use mathlib.Core.List.{List, [], _∷_, _++_, append-nil}
 use lib.ListN.{length, getD, take, drop, replicate, length-replicate, replicate-append-replicate}
 use lib.Seq.{ext-getD}
 use borrow.Author.Tests.{lt-ltb, le-ltb, ltb-false}
@@ -19,7 +19,7 @@ use Rattle.definitions.specs.Written.{fileFor}
 use Rattle.definitions.specs.Convert.{inVersion2, inVersion1, movedTo2, movedTo1, elsewhere, toVersion2, toVersion1, Moved, ThereAndBack}
 use Rattle.laws.specs.SumLaws.{sum-zero, sum-suc, sum-same, sum-constant, sum-split, any-largest, largest-le, le-largest}
 use Rattle.laws.specs.ListLaws.{length-firsts, getD-firsts}
-use Rattle.laws.specs.RuleLaws.{andThen, in-parts, NoneHold, none-hold, none-in-parts, none-together, all-pass, agree}
+use Rattle.laws.specs.RuleLaws.{andThen, row-stops, row-passes, none-left, in-parts, NoneHold, none-hold, none-in-parts, none-together, all-pass, agree}
 use Rattle.laws.specs.RowLaws.{no-start, with-start}
 use Rattle.laws.specs.ChainLaws.{version-2, other-version}
 use Rattle.laws.specs.Acceptance.{accepted-model}
@@ -153,17 +153,13 @@ module _ (s : List ℕ) (bytes : (i : ℕ) → getD s i 0 < 256) where
     length-there = ap (length {A = ℕ}) is-there ∙ omega (arith, length-file (inVersion 2 (onFirst M) (fieldsOf s)), numbers-in-version s whole-1 2 (onFirst M), first-of-all, whole-1 .size, none-held)
 
     -- its bytes: the new length, the version, bytes 3 to 12 as they were, the weights, and the rest as it was
-    pub bytes-there : movedTo2 s ≡ bytesOf 2 (lengthField s + 4 * M) ++ (2 ∷ []) ++ take 10 (drop 3 s) ++ bytesOf 4 1000000 ++ replicate (4 * (M - 1)) 0 ++ drop 13 s
+    pub bytes-there : movedTo2 s ≡ bytesOf 2 (lengthField s + 4 * M) ++ (2 ∷ []) ++ take 10 (drop 3 s) ++ (bytesOf 4 1000000 ++ replicate (4 * (M - 1)) 0) ++ drop 13 s
     bytes-there =
         is-there
         ∙ bytes-in-version s whole-1 2 (onFirst M)
         ∙ ap₂ (λ (n k : ℕ). bytesOf 2 n ++ (2 ∷ []) ++ take 10 (drop 3 s) ++ wordsOf (onFirst M) ++ drop k s) longer rewards-first
-        ∙ ap (λ (l : List ℕ). before ++ l ++ drop 13 s) (words-first MILLION (replicate (M - 1) 0) ∙ ap (λ (l : List ℕ). bytesOf 4 1000000 ++ l) (words-zeros (M - 1)))
-        ∙ ap (λ (l : List ℕ). l ++ drop 13 s) (sym (append-assoc before (bytesOf 4 1000000) (replicate (4 * (M - 1)) 0)))
+        ∙ ap (λ (l : List ℕ). bytesOf 2 (lengthField s + 4 * M) ++ (2 ∷ []) ++ take 10 (drop 3 s) ++ l ++ drop 13 s) (words-first MILLION (replicate (M - 1) 0) ∙ ap (λ (l : List ℕ). bytesOf 4 1000000 ++ l) (words-zeros (M - 1)))
       where
-        before : List ℕ
-        before = bytesOf 2 (lengthField s + 4 * M) ++ (2 ∷ []) ++ take 10 (drop 3 s)
-
         rewards-first : rewardsAt s ≡ 13
         rewards-first = omega (arith, none-held)
 
@@ -323,25 +319,26 @@ module _ (s : List ℕ) (bytes : (i : ℕ) → getD s i 0 < 256) where
             returns = returned-back;
           }
 
--- what the calls answer: to version 2, by rows 1 to 12 and 16
+-- what the calls answer where a row from 1 to 12, or 16, holds
 pub refused-there : (s : List ℕ) (lent k : ℕ) → fileJudgement 1 1 s ≡ refused k → toVersion2 s lent ≡ refused k
 unfolding toVersion2 fileJudgement
 refused-there s lent k stopped = stopped-by-table (fileRows 1 1 s) (movedTo2 s) lent k stopped
 
--- to version 1, by these and then row 17
-pub back-in-parts : (s : List ℕ) → judgedBy (fileRows 2 2 s ++ elsewhere (modelOf s)) ≡ andThen (fileJudgement 2 2 s) (judgedBy (elsewhere (modelOf s)))
+-- the way back asks these rows, and then row 17
+back-in-parts : (s : List ℕ) → judgedBy (fileRows 2 2 s ++ elsewhere (modelOf s)) ≡ andThen (fileJudgement 2 2 s) (judgedBy (elsewhere (modelOf s)))
 unfolding fileJudgement
 back-in-parts s = in-parts (fileRows 2 2 s) (elsewhere (modelOf s)) tt tt
 
-pub passed-back : (s : List ℕ) → judgedBy (fileRows 2 2 s ++ elsewhere (modelOf s)) ≡ accepted tt → fileJudgement 2 2 s ≡ accepted tt
-unfolding fileJudgement
-passed-back s h = all-pass (fileRows 2 2 s) tt (none-in-parts (fileRows 2 2 s) (elsewhere (modelOf s)) (none-hold (fileRows 2 2 s ++ elsewhere (modelOf s)) (tt {0}) tt h) .0)
-
-pub refused-back : (s : List ℕ) (lent k : ℕ) → judgedBy (fileRows 2 2 s ++ elsewhere (modelOf s)) ≡ refused k → toVersion1 s lent ≡ refused k
+pub refused-back : (s : List ℕ) (lent k : ℕ) → fileJudgement 2 2 s ≡ refused k → toVersion1 s lent ≡ refused k
 unfolding toVersion1
-refused-back s lent k stopped = stopped-by-table (fileRows 2 2 s ++ elsewhere (modelOf s)) (movedTo1 s) lent k stopped
+refused-back s lent k stopped = stopped-by-table (fileRows 2 2 s ++ elsewhere (modelOf s)) (movedTo1 s) lent k (back-in-parts s ∙ rw stopped refl)
 
--- where the rows pass, by the bytes that are lent
+-- where they pass and row 17 holds
+pub weighed-elsewhere : (s : List ℕ) (lent : ℕ) → fileJudgement 2 2 s ≡ accepted tt → anyAbove 0 (stateCount s - 1) (λ i. weightField s (i + 1)) ≡ true → toVersion1 s lent ≡ refused 17
+unfolding toVersion1 elsewhere
+weighed-elsewhere s lent passed held = stopped-by-table (fileRows 2 2 s ++ elsewhere (modelOf s)) (movedTo1 s) lent 17 (back-in-parts s ∙ rw passed (row-stops 17 _ _ _ held))
+
+-- and where all of them pass, by the bytes that are lent
 module _ (s : List ℕ) (bytes : (i : ℕ) → getD s i 0 < 256) (lent : ℕ) where
   pub no-room-there : fileJudgement 1 1 s ≡ accepted tt → lent < length s + 4 * stateCount s → toVersion2 s lent ≡ refused 13
   unfolding toVersion2 fileJudgement
@@ -351,13 +348,18 @@ module _ (s : List ℕ) (bytes : (i : ℕ) → getD s i 0 < 256) (lent : ℕ) wh
   unfolding toVersion2 fileJudgement
   written-there passed enough = is-written (fileRows 1 1 s) (movedTo2 s) lent passed (omega (arith, enough, length-there s bytes passed))
 
-  pub no-room-back : judgedBy (fileRows 2 2 s ++ elsewhere (modelOf s)) ≡ accepted tt → lent < length s - 4 * stateCount s → toVersion1 s lent ≡ refused 13
-  unfolding toVersion1
-  no-room-back passed few = stopped-by-room (fileRows 2 2 s ++ elsewhere (modelOf s)) (movedTo1 s) lent passed (omega (arith, few, length-back s bytes (passed-back s passed)))
+  module _ (passed : fileJudgement 2 2 s ≡ accepted tt) (none : anyAbove 0 (stateCount s - 1) (λ i. weightField s (i + 1)) ≡ false) where
+    all-passed : judgedBy (fileRows 2 2 s ++ elsewhere (modelOf s)) ≡ accepted tt
+    unfolding elsewhere
+    all-passed = back-in-parts s ∙ rw passed (row-passes 17 _ _ _ none ∙ none-left tt)
 
-  pub written-back : judgedBy (fileRows 2 2 s ++ elsewhere (modelOf s)) ≡ accepted tt → length s - 4 * stateCount s ≤ lent → toVersion1 s lent ≡ accepted (movedTo1 s)
-  unfolding toVersion1
-  written-back passed enough = is-written (fileRows 2 2 s ++ elsewhere (modelOf s)) (movedTo1 s) lent passed (omega (arith, enough, length-back s bytes (passed-back s passed)))
+    pub no-room-back : lent < length s - 4 * stateCount s → toVersion1 s lent ≡ refused 13
+    unfolding toVersion1
+    no-room-back few = stopped-by-room (fileRows 2 2 s ++ elsewhere (modelOf s)) (movedTo1 s) lent all-passed (omega (arith, few, length-back s bytes passed))
+
+    pub written-back : length s - 4 * stateCount s ≤ lent → toVersion1 s lent ≡ accepted (movedTo1 s)
+    unfolding toVersion1
+    written-back enough = is-written (fileRows 2 2 s ++ elsewhere (modelOf s)) (movedTo1 s) lent all-passed (omega (arith, enough, length-back s bytes passed))
 
 -- "there and back returns the same bytes": of every answer of the calls
 module _ (s : List ℕ) (bytes : (i : ℕ) → getD s i 0 < 256) (lent : ℕ) where

@@ -1,4 +1,4 @@
--- `convert::put_version_2` meets its contract: four texts, one after the other, are the moved file. Assumes nothing.
+-- `convert::put_version_2` meets its contract: three texts, one after the other, are the moved file. Assumes nothing.
 use Prim.Native.Nat.{ℕ, _+_, _*_, _-_, _<_}
 use mathlib.Core.Path.{subst}
 use mathlib.Core.List.{List}
@@ -26,16 +26,17 @@ short c = big-below 2 0 (c .before .args .file .now) (bytes c)
 returns : tie.Need-returns
 returns c =
     let word = c .before .before in
-    let zeros = word .before .before .before .before .before in
-    let big = zeros .before .before .before .before in
-    let header = big .before .before .before .before in
+    let weights = word .before .before .before .before .before in
+    let header = weights .before .before .before .before in
     let count = header .before .before .before in
-    let start = count .before .before .before in
+    let known = count .before .before in
+    let start = known .before in
     let s : List ℕ = start .args .file .now in
     let states = count .state-count .result in
-    let text = text-there s (bytes (count .before .before)) (start .pre .0) (header .before .before .length-field .result + 4 * states) (4 * (states - 1)) (omega (arith, header .before .before .length-field .ensures, count .state-count .ensures)) (omega (arith, count .state-count .ensures)) in
-    let put = then (then (then (header .put-header .ensures) (big .put-big .ensures)) (zeros .put-zeros .ensures)) (word .put-word .ensures) in
-    subst (λ (x : List ℕ). Printed x (start .args .out .now) (word .put-word .last .0) (word .put-word .result)) text (printed (omega (arith, start .pre .1, framed start, count .state-count .ensures, length-take (length s - 13) (drop 13 s), length-drop 13 s)) put)
+    let text = text-there s (bytes known) (start .pre .0) (header .before .before .length-field .result + 4 * states) states (omega (arith, header .before .before .length-field .ensures, count .state-count .ensures)) (omega (arith, count .state-count .ensures)) in
+    let put = then (then (header .put-header .ensures) (weights .put-weights .ensures)) (word .put-word .ensures) in
+    subst (λ (x : List ℕ). Printed x (start .args .out .now) (word .put-word .last .0) (word .put-word .result)) text
+    (printed (omega (arith, start .pre .1, framed start, count .state-count .ensures, length-take (length s - 13) (drop 13 s), length-drop 13 s)) put)
 
 pub put-version-2-spec : {M : Type 1} → statement M
 put-version-2-spec =
@@ -48,27 +49,18 @@ put-version-2-spec =
     (λ c κs. omega (arith, framed (c .before .before .before .before .before) .size))
     (λ c κs.
     let header = c .before .before .before in
-    omega (arith, header .put-header .ensures .within, header .put-header .kept, framed (header .before .before .before .before .before .before)))
-    (λ c.
-    let count = c .before .before .before .before .before .before .before .before .before .before in
-    omega (arith, count .state-count .ensures, framed (count .before .before .before) .states-min))
-    (λ c. search needs)
-    (λ c κs.
-    let big = c .before .before .before in
-    let header = big .before .before .before .before in
     let count = header .before .before .before in
     let start = count .before .before .before in
-    omega (arith, big .put-big .ensures .within, big .put-big .kept, header .put-header .ensures .within, header .put-header .kept, count .state-count .ensures, start .pre .1, framed start))
-    (λ c. omega (arith, framed (c .before .before .before .before .before .before .before .before .before .before .before .before .before .before .before .before .before) .size))
-    (λ c. omega (arith, framed (c .before .before .before .before .before .before .before .before .before .before .before .before .before .before .before .before .before) .size))
+    omega (arith, header .put-header .ensures .within, header .put-header .kept, count .state-count .ensures, start .pre .1, framed start))
+    (λ c. omega (arith, framed (c .before .before .before .before .before .before .before .before .before .before .before .before .before) .size))
+    (λ c. omega (arith, framed (c .before .before .before .before .before .before .before .before .before .before .before .before .before) .size))
     (λ c. search needs)
     (λ c κs.
-    let zeros = c .before .before .before .before in
-    let big = zeros .before .before .before .before in
-    let header = big .before .before .before .before in
+    let weights = c .before .before .before .before in
+    let header = weights .before .before .before .before in
     let count = header .before .before .before in
     let start = count .before .before .before in
     let s : List ℕ = start .args .file .now in
-    omega (arith, zeros .put-zeros .ensures .within, zeros .put-zeros .kept, big .put-big .ensures .within, big .put-big .kept, header .put-header .ensures .within, header .put-header .kept, count .state-count .ensures, start .pre .1, framed start, length-take (length s - 13) (drop 13 s), length-drop 13 s))
+    omega (arith, weights .put-weights .ensures .within, weights .put-weights .kept, header .put-header .ensures .within, header .put-header .kept, count .state-count .ensures, start .pre .1, framed start, length-take (length s - 13) (drop 13 s), length-drop 13 s))
     (λ c. search needs)
     returns)
