@@ -1,10 +1,12 @@
 """The stored calls of the comparison kit: inputs of the library's calls, by name, and what the reference gives.
 
 A name that begins with refused-NN tells the row that is answered; the others are accepted. Of remainders, a name that
-begins with none is answered so; with the others the three rests are given.
+begins with none is answered so; with the others the three rests are given. A name with start tells that the file is of
+version 2.
 """
 
 import itertools
+import math
 import random
 
 import calculator
@@ -23,6 +25,25 @@ NINE = EIGHT + [9]
 def put(file, start, size, value):
     """The file with a number of `size` bytes written from byte `start`."""
     return file[:start] + value.to_bytes(size, "big") + file[start + size:]
+
+
+def weighted(file, weights):
+    """A version 1 file as one of version 2 with these starting weights."""
+    return models.relength(file[:2] + b"\2" + file[3:13] + models.words(weights) + file[13:])
+
+
+def moved(file):
+    """A version 1 file as one of version 2 with all weight on state 1."""
+    return weighted(file, models.on_one(file[3], 0))
+
+
+def spread(file):
+    """The same with weight on every state."""
+    return weighted(file, models.uneven(random.Random(f"spread {len(file)}"), file[3]))
+
+
+A_MOVED, B_MOVED = moved(A), moved(B)
+B_START = weighted(B, [250_000, 750_000])
 
 
 def own_time(file, T):
@@ -44,6 +65,11 @@ def remainders(name, file, state, n, r):
     return Input(name, "remainders", inputs.asked(file, state=state, n=n, r=r))
 
 
+def move(call, name, file, out=None):
+    """A call of the converter; where no count of bytes is given, just what the moved file needs."""
+    return Input(name, call, dict(file=file, out=inputs.moved_length(call, file) if out is None else out))
+
+
 def at(word, file, state, n, r):
     """A call of remainders whose name tells its numbers."""
     return remainders(f"{word}-state-{state}-n-{n}-r-{r}", file, state, n, r)
@@ -63,21 +89,148 @@ def states(M, R, E=1_000, tolerance=10_000_000):
     return models.build(**models.fields_for(random.Random(f"calls {M} {R}"), M, E, 1, R=R, eps=tolerance, fill=1.0))
 
 
+# --- Version 2 ---------------------------------------------------------------------------------------
+
+def with_weights(*weights):
+    """Three states with these starting weights."""
+    return weighted(three_states(2), weights)
+
+
+# Starting weights of three states that sum to 1,000,000.
+WEIGHTS = {
+    "on-first": (1_000_000, 0, 0),
+    "on-second": (0, 1_000_000, 0),
+    "on-last": (0, 0, 1_000_000),
+    "nearly-on-first": (999_999, 0, 1),
+    "nearly-on-last": (1, 0, 999_999),
+    "with-zero": (345_679, 0, 654_321),
+    "even": (333_334, 333_333, 333_333),
+    "uneven": (123_457, 271_829, 604_714),
+}
+# And others that do not.
+WRONG_WEIGHTS = {
+    "0": (0, 0, 0),
+    "999999": (333_333, 333_333, 333_333),
+    "1000001": (333_333, 333_334, 333_334),
+    "999999-on-first": (999_999, 0, 0),
+    "1000001-on-first": (1_000_001, 0, 0),
+    "1000001-on-last": (0, 0, 1_000_001),
+    "16960": (10_000, 6_900, 60),
+    "right-in-24-bits": (2**24, 400_000, 600_000),
+    "right-in-31-bits": (2**30, 1_000_000, 2**30),
+    "right-in-32-bits": (2**32 - 1, 400_000, 600_001),
+    "right-in-32-bits-last": (400_000, 600_001, 2**32 - 1),
+    "right-in-32-bits-twice": (2**32 - 1, 2**32 - 1, 1_000_002),
+    "right-in-20-bits-each": (2**20, 400_000, 600_000),
+    "right-without-first": (1, 400_000, 600_000),
+    "right-without-second": (400_000, 1, 600_000),
+    "right-without-last": (400_000, 600_000, 1),
+    "2000000": (1_000_000, 0, 1_000_000),
+    "3000000": (1_000_000, 1_000_000, 1_000_000),
+    "largest-words": (MAX_WORD, MAX_WORD, MAX_WORD),
+}
+
+
+def largest_words_64():
+    """64 weights of 2^32 - 1, which do not fit 32 bits together."""
+    return weighted(states(64, 1), [MAX_WORD] * 64)
+
+
+def stopped_files():
+    """Files that row 3, 6 or 16 stops, with the ends of their names."""
+    for version in (0, 3, 5, 6, 255):
+        yield f"refused-03-version-{version}", put(B, 2, 1, version)
+        yield f"refused-03-start-version-{version}", put(B_START, 2, 1, version)
+    yield "refused-06-A-version-2", put(A, 2, 1, 2)
+    yield "refused-06-version-2-as-1", put(B, 2, 1, 2)
+    yield "refused-06-version-1-as-2", put(B_START, 2, 1, 1)
+    yield "refused-06-start-a-weight-less", models.relength(B_START[:13] + B_START[17:])
+    yield "refused-06-start-a-weight-more", models.relength(B_START[:13] + bytes(4) + B_START[13:])
+    for word, weights in WRONG_WEIGHTS.items():
+        yield f"refused-16-sum-{word}", with_weights(*weights)
+    for weight in (0, 999_999, 1_000_001):
+        yield f"refused-16-1-state-{weight}", weighted(A, [weight])
+
+
+def start_files():
+    """Accepted files of version 2, with the ends of their names."""
+    for word, weights in WEIGHTS.items():
+        yield f"start-{word}", with_weights(*weights)
+
+
+def start_left(left, rewards, rate):
+    """Two states and one moment with a rate, this one or the least above it, for which there are starting weights that
+    let the sum of weight times moment leave this by 1,000,000; and those weights."""
+    fields = models.valid(2, 1, 1_000, 40, rewards, [[rate], [90_007]])
+    cells = [0] * 2
+    calculator.calculate(models.build(**fields), cells)
+    apart = cells[0] - cells[1]         # a on state 1 adds a times this to 1,000,000 times the second moment
+    common = math.gcd(apart, 1_000_000)
+    step = 1_000_000 // common
+    if left % common == 0:
+        least = left // common * pow(apart // common, -1, step) % step
+        first = least + (1_000_000 - least) // step // 2 * step
+        if 0 < first < 1_000_000:
+            return models.build(**models.in_version_2(fields, [first, 1_000_000 - first]))
+    return start_left(left, rewards, rate + 1)
+
+
+def lefts():
+    """Files of start_left, by their names: what the division by 1,000,000 leaves is next to 0 or to a half."""
+    for left in (0, 1, 499_999, 500_000, 500_001, 999_999):
+        for k, rewards in enumerate(([999_983, 31], [17, 999_979]), 1):
+            yield f"start-left-{left:06d}-{k}", start_left(left, rewards, 123_457 + k)
+
+
+def pairs_of_16():
+    """Row 16 with rows before and after it."""
+    for row in (2, 4, 5, 6, 7, 8):
+        yield f"refused-{row:02d}-before-16", broken({row, 16})
+    for row in (9, 10, 11):
+        yield f"refused-16-before-{row:02d}", broken({16, row})
+    yield "refused-16-before-12", own_time(broken({16}), 257)
+    yield from pairs_of_sum_0()
+
+
+def pairs_of_sum_0():
+    """The same with weights that are all 0."""
+    none = weighted(B, [0, 0])
+    for row in (7, 8):
+        yield f"refused-{row:02d}-before-16-sum-0", broken({row}, none)
+    for row in (9, 10, 11):
+        yield f"refused-16-sum-0-before-{row:02d}", broken({row}, none)
+    yield "refused-16-sum-0-before-12", own_time(none, 257)
+    yield "refused-16-before-9-11-12", own_time(broken({16, 9, 11}), 257)
+
+
 # --- Rows broken ------------------------------------------------------------------------------------
 
-# File B with one row broken, by the least that breaks it; row 1 cuts it to 12 bytes.
+def rewards_from(file):
+    """Where the rewards of file B begin, or of a file with its numbers."""
+    return 21 if file[2] == 2 else 13
+
+
+def one_more(file):
+    """A version 2 file with its first weight one more."""
+    return put(file, 13, 4, 1 + int.from_bytes(file[13:17], "big"))
+
+
+# File B, in either version, with one row broken, by the least that breaks it; row 1 cuts it to 12 bytes. Row 17 has all
+# but a millionth on state 1.
 BROKEN = {
     1: lambda file: models.relength(file[:12]),
     2: lambda file: file + b"\0",
-    3: lambda file: put(file, 2, 1, 2),
+    3: lambda file: put(file, 2, 1, 3),
     4: lambda file: put(file, 3, 1, 65),
     5: lambda file: put(file, 4, 1, 9),
     6: lambda file: models.relength(file + b"\0"),
     7: lambda file: put(file, 5, 4, 100_000_001),
     8: lambda file: own_time(file, 0),
-    9: lambda file: put(file, 17, 4, 1_000_001),
-    10: lambda file: put(file, 13, 8, 0),
-    11: lambda file: put(file, 21, 4, 10_000_001),
+    16: one_more,
+    9: lambda file: put(file, rewards_from(file) + 4, 4, 1_000_001),
+    10: lambda file: put(file, rewards_from(file), 8, 0),
+    11: lambda file: put(file, rewards_from(file) + 8, 4, 10_000_001),
+    17: lambda file: put(put(file, 13, 4, 999_999), 17, 4, 1),
 }
 # A list that breaks this row, or these rows.
 LISTS = {
@@ -85,15 +238,17 @@ LISTS = {
     (8, 14): [0] + EIGHT, (8, 15): [0, 0], (8, 12): [0, MAX_X + 1],
     (14, 15): [1] * 9, (12, 14): EIGHT + [MAX_X + 1], (12, 15): [MAX_X + 1] * 2,
 }
-# Rows that file B does not break together: 12 bytes hold no rewards and rates, 65 states leave no room for rates.
-IMPOSSIBLE = {(1, 2), (1, 6), (1, 9), (1, 10), (1, 11), (9, 10), (4, 11)}
+# Rows that file B does not break together: 12 bytes hold no weights, rewards and rates, 65 states leave no room for
+# rates.
+IMPOSSIBLE = {(1, 2), (1, 6), (1, 16), (1, 9), (1, 10), (1, 11), (1, 17), (9, 10), (4, 11)}
 
 
-def broken(rows):
-    """The file with the rows up to 11 broken: the last first, since a broken length or cut goes over all else."""
-    file = B
-    for row in sorted(rows & BROKEN.keys(), reverse=True):
-        file = BROKEN[row](file)
+def broken(rows, file=None):
+    """File B, or another with its numbers, with those of the rows broken that a file breaks but 12: the last first,
+    since a broken length or cut goes over all else. With row 16 it has a starting distribution."""
+    file = file or (B_START if 16 in rows else B)
+    for row in reversed(BROKEN):
+        file = BROKEN[row](file) if row in rows else file
     return put(file, 3, 1, 0) if {4, 10} <= rows else file      # 65 states would read other rewards
 
 
@@ -117,7 +272,7 @@ def series_rows():
 def series_breaking(name, rows, in_list=False):
     """A call that breaks these rows and no other (13: no cell of either slice)."""
     listed = tuple(sorted(rows & ({8, 12, 14, 15} if in_list else {12, 14, 15})))
-    counts = (0, 0) if 13 in rows else (9, 36)
+    counts = (0, 0) if 13 in rows else (9, 54 if 16 in rows else 36)
     return series(name, broken(rows - {8} if in_list else rows), LISTS[listed], *counts)
 
 
@@ -298,8 +453,68 @@ def series_kinds():
         yield series(f"valid-{name}", file, inputs.rising(rng, inputs.longest_time(file), rng.randint(2, 5)))
 
 
+def series_start():
+    """Version 2: a block has its start figures behind its moments."""
+    yield series("hand-A-start", A_MOVED, [1, 2])
+    yield series("hand-B-start", B_START, [1])
+    yield series("hand-B-start-times-1-and-2", B_START, [1, 2])
+    yield series("hand-B-start-on-1", B_MOVED, [1, 2])
+    yield series("hand-B-start-three-times-longer-slices", B_START, [1, 2, 256], 5, 30)
+    for name, file in start_files():
+        yield series(name, file, [3, 40, 500])
+    for name, file in lefts():
+        yield series(name, own_time(file, 1), [40, 41])
+    for R in (1, 3, 8):
+        yield series(f"start-moments-{R}", spread(three_states(R)), [1, 10, 100, 1_000])
+    yield series("start-1-state", moved(models.build(1, 1, 3, 1_000, 1, [5], [[]])), EIGHT[:7] + [MAX_X])
+    yield series("start-levels-stay", spread(slow_pair(2)), range(7_000_000, 7_000_008))
+    yield series("start-large-steps-and-small", B_START, [1, 2, 128, 129, 255, 256])
+    yield series("start-8-times", spread(three_states(2)), [1, 3, 17, 60, 200, 700, 1_500, 2_000])
+    yield series("start-16-states", spread(states(16, 3)), [1, 500])
+    yield series("start-64-states-moments-8", spread(states(64, 8)), [1, 1_000])
+    for word, T in (("late", 257), ("largest", MAX_WORD)):
+        yield series(f"start-own-time-{word}", own_time(B_START, T), [2, 3, 100])
+
+
+def series_start_rows():
+    """Version 2: rows 3, 6 and 16, and 16 with those before and after it."""
+    for name, file in (*stopped_files(), *pairs_of_sum_0(), ("refused-16-64-largest-words", largest_words_64())):
+        yield series(name, file, [1, 2])
+    yield series("refused-08-list-before-16-9-times", broken({16}), [0] + EIGHT, 9, 54)
+    yield series("refused-08-both-before-16", broken({8, 16}), [0, 1])
+    yield series("refused-16-no-times", broken({16}), [])
+    yield series("refused-16-before-9-14-15", broken({16, 9}), [257] * 9, 9, 54)
+    yield series("refused-16-no-cells", broken({16}), [1, 2], 0, 0)
+    for row, times in ((14, NINE), (15, [2, 2]), (12, [1, 257])):
+        yield series(f"refused-{row}-start", B_START, times, 9, 54)
+    yield series("border-12-start-last-256", B_START, [256])
+    yield series("refused-12-start-last-257", B_START, [1, 256, 257])
+
+
+def series_start_row_13():
+    """Version 2: the start figures are counted, in each block."""
+    for word, file in (("B", B_START), ("A", A_MOVED), ("3-states", spread(three_states(8)))):
+        size, moments = inputs.need(file), file[3] * file[4]
+        for times in ([3], [1, 4], EIGHT):
+            n, name = len(times), f"start-{word}-{len(times)}-times"
+            yield series(f"border-13-{name}", file, times)
+            yield series(f"border-13-{name}-three-more-each", file, times, n + 3, n * size + 3)
+            yield series(f"refused-13-{name}-a-level-less", file, times, n - 1, n * size)
+            yield series(f"refused-13-{name}-a-cell-less", file, times, n, n * size - 1)
+            yield series(f"refused-13-{name}-moments-alone", file, times, n, n * moments)
+            if n > 1:
+                yield series(f"refused-13-{name}-start-once", file, times, n, n * moments + file[4])
+    for word, levels, cells in (("no-levels", 0, 64), ("no-cells", 64, 0), ("none-of-either", 0, 0)):
+        yield series(f"refused-13-start-{word}", B_START, [1, 2, 3], levels, cells)
+    wide = spread(states(3, 8))
+    yield series("border-13-start-256-cells", wide, EIGHT)
+    yield series("refused-13-start-256-cells-less-one", wide, EIGHT, 8, 255)
+    yield series("refused-13-start-256-cells-none", wide, EIGHT, 8, 0)
+
+
 SERIES = (series_values, series_rows, series_row_8, series_row_14, series_row_15, series_row_12, series_own_time,
-          series_row_13, series_levels, series_last_division, series_kinds)
+          series_row_13, series_levels, series_last_division, series_kinds, series_start, series_start_rows,
+          series_start_row_13)
 
 
 # --- Calculate: row 13 -------------------------------------------------------------------------------------
@@ -324,14 +539,58 @@ def calculate_row_13():
 
 def calculate_before_13():
     """Every earlier row with too few cells."""
-    for row in ROWS["calculate"][:12]:
-        file = BROKEN[row](B) if row < 12 else own_time(B, 257)
+    for row in ROWS["calculate"][:-1]:
         for cells in (0, 3):
-            yield calculate(f"refused-{row:02d}-before-13-{cells}-cells", file, cells)
+            yield calculate(f"refused-{row:02d}-before-13-{cells}-cells", alone(row), cells)
     yield calculate("refused-01-before-13-empty", b"", 0)
 
 
-CALCULATE = (calculate_row_13, calculate_before_13)
+# --- Calculate: version 2 ------------------------------------------------------------------------------------
+
+def calculate_start():
+    """Start figures behind the moments."""
+    for word, file in (("hand-A-start", A_MOVED), ("hand-B-start", B_START), ("hand-B-start-on-1", B_MOVED),
+                       ("hand-B-start-on-2", weighted(B, [0, 1_000_000])), *start_files(), *lefts(),
+                       ("start-9-states", spread(states(9, 8)))):
+        yield calculate(word, file, inputs.need(file))
+
+
+def calculate_start_rows():
+    """Rows 3, 6 and 16, and 16 with those before and after it, cells being enough, and too few."""
+    for name, file in (*stopped_files(), ("refused-16-64-largest-words", largest_words_64())):
+        yield calculate(name, file, 65 if file[3] == 64 else 9)
+    for name, file in pairs_of_16():
+        yield calculate(name, file, 9)
+        yield calculate(f"{name}-no-cells", file, 0)
+    for row in ROWS["calculate"][:-1]:
+        if row != 16:
+            yield calculate(f"refused-{row:02d}-start", alone(row, B_START), 6)
+            yield calculate(f"refused-{row:02d}-start-before-13", alone(row, B_START), 5)
+
+
+def calculate_start_row_13():
+    """The start figures are counted: too few cells, those of the moments alone, just enough, and more."""
+    files = [("A", A_MOVED), ("B", B_START)]
+    files += [(f"3-states-moments-{R}", spread(three_states(R))) for R in range(1, 9)]
+    files += [(f"{M}-states-moments-{R}", spread(states(M, R))) for M, R in ((8, 1), (31, 8))]
+    for word, file in files:
+        size = inputs.need(file)
+        yield calculate(f"border-13-start-{word}", file, size)
+        yield calculate(f"refused-13-start-{word}-one-less", file, size - 1)
+        yield calculate(f"refused-13-start-{word}-moments-alone", file, size - file[4])
+        if size < 256:
+            yield calculate(f"border-13-start-{word}-three-more", file, size + 3)
+    for cells in range(6):
+        yield calculate(f"refused-13-start-B-{cells}-cells", B_START, cells)
+    for cells in (7, 520, 521):
+        yield calculate(f"border-13-start-B-{cells}-cells", B_START, cells)
+    largest = spread(states(64, 8))
+    yield calculate("border-13-start-64-states-520-cells", largest, 520)
+    for cells in (512, 519):
+        yield calculate(f"refused-13-start-64-states-{cells}-cells", largest, cells)
+
+
+CALCULATE = (calculate_row_13, calculate_before_13, calculate_start, calculate_start_rows, calculate_start_row_13)
 
 
 # --- Remainders: models -----------------------------------------------------------------------------------
@@ -499,17 +758,19 @@ def remainders_none():
 FAR = [tuple(OUTSIDE[place](limit) for limit in MOST.values()) for place in ("0", "one-past", "2-32-and-1", "largest")]
 
 
-def alone(row):
-    """File B with this row broken; row 12 by the time 257."""
-    return broken({row}) if row < 12 else own_time(B, 257)
+def alone(row, file=None):
+    """File B, or another with its numbers, with this row broken; row 12 by the time 257."""
+    return own_time(file or B, 257) if row == 12 else broken({row}, file)
 
 
 def with_later(row):
-    """File B with this row broken, and the later ones that it can break as well."""
+    """File B with this row broken, and the later ones that it can break as well; 16 is that of version 2."""
     if row == 1:
         return with_later(2)[:12]
     if row < 9:
         return broken(set(range(row, 12)))
+    if row == 16:
+        return own_time(broken({16, 9, 11}), 257)
     return own_time(broken({row, 11}) if row < 12 else B, 257)
 
 
@@ -527,10 +788,160 @@ def remainders_rows():
     yield remainders("refused-01-empty-outside", b"", 0, 0, 0)
 
 
-REMAINDERS = (remainders_hand, remainders_corners, remainders_rests, remainders_models, remainders_levels,
-              remainders_none, remainders_rows)
+def remainders_start():
+    """Version 2: the rests are those of version 1; rows 3, 6 and 16 come before none."""
+    for numbers in ((1, 3, 1), (2, 3, 2), (1, 1, 2)):
+        yield at("hand-B-start", B_START, *numbers)
+    file = spread(leaving())
+    for numbers in itertools.product(*((1, limit) for limit in inputs.limits(file).values())):
+        yield at("start-corner", file, *numbers)
+    for name, each in start_files():
+        yield remainders(name, each, 2, 2, 2)
+    yield at("start-1-state", moved(one_state()), 1, 13, 8)
+    for name in NUMBERS:
+        for place in ("0", "one-past"):
+            yield outside("start-", file, [name], place)
+    for name, each in stopped_files():
+        yield remainders(name, each, 1, 1, 1)
+        yield remainders(f"{name}-outside", each, *FAR[1])
+    for name, each in pairs_of_16():
+        yield remainders(name, each, 1, 1, 1)
+    for row in ROWS["remainders"]:
+        if row != 16:
+            yield remainders(f"refused-{row:02d}-start", alone(row, B_START), 1, 1, 1)
 
-GROUPS = {"calculate": CALCULATE, "remainders": REMAINDERS, "series": SERIES}
+
+REMAINDERS = (remainders_hand, remainders_corners, remainders_rests, remainders_models, remainders_levels,
+              remainders_none, remainders_rows, remainders_start)
+
+
+# --- The converter --------------------------------------------------------------------------------------------
+
+FILE_B = {"to_version_2": B, "to_version_1": B_MOVED}
+
+
+def of_version(call, file):
+    """A version 1 file in the version that a call moves."""
+    return file if call == "to_version_2" else moved(file)
+
+
+def move_files(call):
+    """Files that are moved, by the same names in either call: what one gets, the other gives."""
+    files = [("hand-A", A), ("hand-B", B), ("moments-1", three_states(1)), ("moments-8", three_states(8)),
+             ("no-rates", no_rates()), ("absorbing", absorbing()), ("largest-rate", largest_rate()),
+             ("longest", longest()), ("border-12-B", own_time(B, 256)), ("border-7-B", put(B, 5, 4, 100_000_000)),
+             ("time-2-24-and-1", put(slow_pair(), 9, 4, 2**24 + 1))]
+    files += [(f"states-{M}", states(M, 1 + M % 8)) for M in (1, 2, 4, 7, 8, 11, 16, 64)]
+    for name, file in files:
+        yield move(call, f"there-and-back-{name}", of_version(call, file))
+
+
+def move_row_13(call):
+    """Slices that are too short, just enough, and longer."""
+    for word, file in (("A", A), ("B", B), ("3-states", three_states(8)), ("11-states", states(11, 2))):
+        file = of_version(call, file)
+        enough = inputs.moved_length(call, file)
+        for name, out in (("one-less", enough - 1), ("two-less", enough - 2), ("none", 0), ("one-byte", 1),
+                          ("header", 13), ("a-word-less", enough - 4)):
+            yield move(call, f"refused-13-{word}-{name}", file, out)
+        for name, out in (("one-more", enough + 1), ("three-more", enough + 3), ("a-word-more", enough + 4),
+                          ("256-more", enough + 256)):
+            yield move(call, f"border-13-{word}-{name}", file, out)
+        if call == "to_version_2":
+            yield move(call, f"refused-13-{word}-of-the-file", file, len(file))
+        else:
+            yield move(call, f"border-13-{word}-of-the-file", file, len(file))
+    for out in (16_397, 16_653, 2**16, 2**16 + 1):
+        yield move(call, f"border-13-B-{out}-bytes", FILE_B[call], out)
+
+
+def move_rows(call):
+    """Every row of the table alone, then every two together: the first of the two is answered. Row 13: a byte less."""
+    file, order = FILE_B[call], ROWS[call]
+    enough = inputs.moved_length(call, file)
+
+    def breaking(name, rows, base):
+        base = own_time(base, 257) if 12 in rows else base
+        return move(call, name, broken(rows, base), enough - (13 in rows))
+
+    for row in order:
+        yield breaking(f"refused-{row:02d}", {row}, file)
+    for k, row in enumerate(order):
+        for later in order[k + 1:]:
+            if (row, later) not in IMPOSSIBLE | {(8, 12)}:
+                yield breaking(f"refused-{row:02d}-before-{later:02d}", {row, later}, file)
+    for row, later in (*zip(order, order[1:]), *zip(order, order[2:])):
+        if (row, later) not in IMPOSSIBLE | {(8, 12)}:
+            yield breaking(f"refused-{row:02d}-before-{later:02d}-moments-8", {row, later}, put(file, 4, 1, 8))
+    for row in order[:-1]:
+        yield move(call, f"refused-{row:02d}-no-bytes", alone(row, file), 0)
+        yield move(call, f"refused-{row:02d}-longer", alone(row, file), 200)
+    yield move(call, "refused-01-empty", b"", 20)
+    yield move(call, "refused-01-one-byte", b"\0", 20)
+    yield move(call, "refused-01-12-bytes", file[:12], 20)
+
+
+def move_versions(call):
+    """Row 3: versions that are none, and the version that is not to be moved, whatever else holds; row 6 by the length
+    of the other version."""
+    for version in (0, 3, 5, 255):
+        yield move(call, f"refused-03-version-{version}", put(B, 2, 1, version), 60)
+        yield move(call, f"refused-03-start-version-{version}", put(B_MOVED, 2, 1, version), 60)
+    other, word = (B_MOVED, "version-2") if call == "to_version_2" else (B, "version-1")
+    yield move(call, f"refused-03-{word}", other, 60)
+    yield move(call, f"refused-03-{word}-no-bytes", other, 0)
+    yield move(call, f"refused-03-{word}-A", A_MOVED if call == "to_version_2" else A, 60)
+    for row in (1, 2):
+        yield move(call, f"refused-{row:02d}-{word}", alone(row, other), 60)
+        yield move(call, f"refused-{row:02d}-version-3", alone(row, put(other, 2, 1, 3)), 60)
+    yield move(call, f"refused-02-{word}-a-byte-less", other[:-1], 60)
+    for row in (4, 5, 6, 7, 8, 9, 10, 11, 12):
+        yield move(call, f"refused-03-{word}-before-{row:02d}", alone(row, other), 60)
+    if call == "to_version_2":
+        yield move(call, "refused-03-version-2-spread", B_START, 60)
+        yield move(call, "refused-03-version-2-before-16", broken({16}), 60)
+        yield move(call, "refused-06-version-1-as-2", put(B_MOVED, 2, 1, 1), 60)
+    else:
+        yield move(call, "refused-06-A-version-2", put(A, 2, 1, 2), 60)
+        yield move(call, "refused-06-version-2-as-1", put(B, 2, 1, 2), 60)
+
+
+def move_back_weights(call):
+    """Rows 16 and 17: sums that are wrong, and weight on another state than the first."""
+    for word, weights in WRONG_WEIGHTS.items():
+        yield move(call, f"refused-16-sum-{word}", with_weights(*weights))
+    for weight in (0, 999_999, 1_000_001):
+        yield move(call, f"refused-16-1-state-{weight}", weighted(A, [weight]))
+    yield move(call, "refused-16-64-largest-words", largest_words_64())
+    for word, weights in WEIGHTS.items():
+        name = word if word == "on-first" else f"refused-17-{word}"
+        yield move(call, name, with_weights(*weights))
+    for word, weights in (("1-on-second", (999_999, 1, 0)), ("1-on-last", (999_999, 0, 1)),
+                          ("2-8-on-last", (999_744, 0, 256)), ("2-16-on-second", (934_464, 65_536, 0)),
+                          ("2-16-on-last", (934_464, 0, 65_536)), ("2-16-together", (934_464, 65_535, 1))):
+        file = with_weights(*weights)
+        enough = inputs.moved_length(call, file)
+        yield move(call, f"refused-17-{word}", file)
+        yield move(call, f"refused-17-{word}-one-less", file, enough - 1)
+    for row in (8, 16, 9, 10, 11, 12):
+        yield move(call, f"refused-{row:02d}-before-17-quarter", alone(row, B_START), 40)
+    yield move(call, "refused-17-on-second-of-2", weighted(B, [0, 1_000_000]), 40)
+    yield move(call, "refused-17-quarter", B_START, 40)
+    yield move(call, "refused-17-quarter-no-bytes", B_START, 0)
+    one_on_8 = [999_999, 0, 0, 0, 0, 0, 0, 1, 0, 0, 0]
+    yield move(call, "refused-17-1-on-state-8-of-11", weighted(states(11, 1), one_on_8))
+
+
+def moves(call, *groups):
+    """The groups of inputs of a call of the converter."""
+    return tuple(lambda group=group: group(call) for group in groups)
+
+
+TO_VERSION_2 = moves("to_version_2", move_files, move_row_13, move_rows, move_versions)
+TO_VERSION_1 = moves("to_version_1", move_files, move_row_13, move_rows, move_versions, move_back_weights)
+
+GROUPS = {"calculate": CALCULATE, "remainders": REMAINDERS, "series": SERIES, "to_version_1": TO_VERSION_1,
+          "to_version_2": TO_VERSION_2}
 
 
 def named(call):

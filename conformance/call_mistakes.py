@@ -1,5 +1,5 @@
-"""The tables of wrong calls for call_mutants.py: each the reference's series or calculate with one thing changed, and
-those of remainders from remainders_mistakes.py.
+"""The tables of wrong calls for call_mutants.py: each the reference's series or calculate with one thing changed, those
+of remainders from remainders_mistakes.py, and those of the converter from move_mistakes.py.
 
 As in mistakes.py, an entry names the mistake, says it in a line and gives its changes in the text of
 reference/calculator.py. TABLE holds the mistakes by call, LEFT_OUT the changes that no call can show, each with the
@@ -7,9 +7,11 @@ reason; EQUIVALENT are those of series.
 """
 
 import mistakes
+import move_mistakes
 import remainders_mistakes
 from mistakes import ROWS as FILE_ROWS
 from mistakes import wrong
+from remainders_mistakes import of_sheets
 
 RIGHT = mistakes.Wrong("reference", "nothing changed", (), None)
 
@@ -17,10 +19,11 @@ RIGHT = mistakes.Wrong("reference", "nothing changed", (), None)
 # --- Parts of the reference that the entries change ------------------------------------------
 
 JUDGED = "row = refusal(file, LENT_CELLS)"
-TO_11 = "    if 9 <= row <= 11:"
+TO_8 = "    if 1 <= row <= 8:"
+TO_11 = "    if row == 16 or 9 <= row <= 11:"
 LIMIT = "> 256_000_000"
 LAST_X = "model.E * times[-1]"
-NEEDED = "len(times) * model.M * model.R"
+NEEDED = "len(times) * block_size(file)"
 ABOVE = "late <= early"
 ROWS = {
     8: "times and times[0] == 0",
@@ -33,7 +36,7 @@ ROWS = {
 FREE = {
     **ROWS,
     12: f"times and last_product(file, times) {LIMIT}",
-    13: "levels < len(times) or cells < len(times) * moments_of(file)",
+    13: "levels < len(times) or cells < len(times) * block_of(file)",
 }
 SERIES_ROW = "    row = series_refusal(file, times, len(levels), len(cells))\n"
 REFUSED = SERIES_ROW + "    if row:\n"
@@ -43,11 +46,13 @@ PAIRS = "enumerate(zip(times, found))"
 WEIGHTS = "w = weights(model.E * T, N)"
 MOMENT = "moment(w, U, N, i, r)"
 BLOCK = f"block = [{MOMENT} for i in range(model.M) for r in range(1, model.R + 1)]"
+STARTS = "block += start_figures(model, block)"
 PUT_LEVEL = "levels[k] = N"
 PUT_BLOCK = "cells[k * size:(k + 1) * size] = block"
 ANSWER = 'return ("times", len(times))'
 CALCULATE_ROW = "    result = outcome(file, len(cells))\n"
-CALCULATE_END = "(i - 1) * model.R + (r - 1)] = moment(w, U, N, i - 1, r)\n    return result\n"
+PUT_STARTS = mistakes.PUT_STARTS
+CALCULATE_END = f"{PUT_STARTS}    return result\n"
 
 
 # --- Helpers for the new texts -----------------------------------------------------------------------
@@ -55,14 +60,15 @@ CALCULATE_END = "(i - 1) * model.R + (r - 1)] = moment(w, U, N, i - 1, r)\n    r
 def last_product(file, times):
     """E times the last time as far as the bytes are there."""
     M = file[3] if len(file) > 3 else 0
-    rates = [int.from_bytes(file[k:k + 4], "big") for k in range(13 + 4 * M, len(file), 4)]
+    first = 13 + (8 if file[2:3] == b"\2" else 4) * M
+    rates = [int.from_bytes(file[k:k + 4], "big") for k in range(first, len(file), 4)]
     sums = [sum(rates[k:k + M - 1]) for k in range(0, len(rates), M - 1)] if M > 1 else []
     return (max(sums, default=0) or 1) * times[-1]
 
 
-def moments_of(file):
-    """M * R as far as the bytes are there."""
-    return file[3] * file[4] if len(file) > 4 else 0
+def block_of(file):
+    """The cells of a block as far as the bytes are there."""
+    return (file[3] + (file[2] == 2)) * file[4] if len(file) > 4 else 0
 
 
 def with_time_1(file):
@@ -92,8 +98,8 @@ def half_down(a, b):
     return -((b - 2 * a) // (2 * b))
 
 
-HELPERS = (*mistakes.HELPERS, *remainders_mistakes.HELPERS, last_product, moments_of, with_time_1, swapped_bytes, fill,
-           lay, half_down)
+HELPERS = (*mistakes.HELPERS, *remainders_mistakes.HELPERS, *move_mistakes.HELPERS, last_product, block_of, with_time_1,
+           swapped_bytes, fill, lay, half_down)
 
 
 # --- Series: the refusal table -------------------------------------------------------------------------
@@ -227,8 +233,17 @@ ROW_13 = [
         ("levels-alone", "only the level cells counted", "levels < len(times)"),
         ("cells-alone", "only the block cells counted", f"cells < {NEEDED}"),
         ("both-short", "only where both slices are too short", ROWS[13].replace(" or ", " and ")),
-        ("one-block", "cells for one block enough", ROWS[13].replace(NEEDED, "model.M * model.R")),
-        ("a-block-less", "a block less enough", ROWS[13].replace(NEEDED, "(len(times) - 1) * model.M * model.R")),
+        ("one-block", "cells for one block enough", ROWS[13].replace(NEEDED, "block_size(file)")),
+        ("a-block-less", "a block less enough", ROWS[13].replace(NEEDED, "(len(times) - 1) * block_size(file)")),
+        ("moments-alone", "the start figures not counted", ROWS[13].replace(NEEDED, "len(times) * model.M * model.R")),
+        ("start-once", "the start figures counted once",
+         ROWS[13].replace(NEEDED, "len(times) * model.M * model.R + len(model.a[:1]) * model.R")),
+        ("start-in-version-1", "start figures counted in version 1 too",
+         ROWS[13].replace(NEEDED, "len(times) * (model.M + 1) * model.R")),
+        ("start-one-each", "one start figure counted for a block",
+         ROWS[13].replace(NEEDED, "len(times) * (model.M * model.R + len(model.a[:1]))")),
+        ("start-M-each", "M start figures counted for a block",
+         ROWS[13].replace(NEEDED, "len(times) * (model.M * model.R + len(model.a))")),
         ("without-R", "M cells for a block enough", ROWS[13].replace(NEEDED, "len(times) * model.M")),
         ("without-M", "R cells for a block enough", ROWS[13].replace(NEEDED, "len(times) * model.R")),
         ("at-the-last-level", "just enough level cells refused", ROWS[13].replace("levels <", "levels <=")),
@@ -236,14 +251,35 @@ ROW_13 = [
         ("a-level-less", "one level cell less let through", ROWS[13].replace("levels <", "levels + 1 <")),
         ("a-cell-less", "one block cell less let through", ROWS[13].replace("cells <", "cells + 1 <")),
         ("8-levels", "8 level cells asked for", ROWS[13].replace("levels < len(times)", "levels < 8")),
-        ("8-blocks", "cells for 8 blocks asked for", ROWS[13].replace(NEEDED, "8 * model.M * model.R")),
+        ("8-blocks", "cells for 8 blocks asked for", ROWS[13].replace(NEEDED, "8 * block_size(file)")),
         ("512-cells", "512 cells for a block asked for", ROWS[13].replace(NEEDED, "512 * len(times)")),
+        ("520-cells", "520 cells for a block asked for", ROWS[13].replace(NEEDED, "520 * len(times)")),
         ("levels-in-cells", "block cells for the levels asked for too",
          ROWS[13].replace(NEEDED, f"len(times) + {NEEDED}")),
         ("exchanged", "the two counts exchanged", f"cells < len(times) or levels < {NEEDED}"),
         ("exact", "counts that are not just enough refused", ROWS[13].replace("<", "!=")),
         ("8-bit", "the block cells needed in 8 bits", ROWS[13].replace(NEEDED, f"{NEEDED} % 256"))),
     *earlier(13, "all", "8-list", "9", "14", "15", "12"),
+]
+
+
+def row_16_after(place):
+    """Row 16 tested behind a place of the table; the rows of the file before 9 to 11 are as they were."""
+    return wrong(f"row-16-after-{place}", f"row 16 tested after row {place}", (TO_11, "    if 9 <= row <= 11:"),
+                 (BEHIND[place], f"    if row == 16:\n        return 16\n{BEHIND[place]}"))
+
+
+ROW_16 = [
+    wrong("row-16-left-out-here", "row 16 left out in series", (TO_11, "    if 9 <= row <= 11:")),
+    wrong("row-16-before-8-list", "row 16 tested before a first listed time of 0",
+          (TO_8, "    if row == 16 or 1 <= row <= 8:")),
+    wrong("row-16-as-12", "row 16, like 12, taken for one that does not count in series",
+          (JUDGED, f"{JUDGED}\n    row = 0 if row in (12, 16) else row")),
+    *map(row_16_after, ("14", "15", "12", "13")),
+    *of_sheets(*mistakes.VERSION_2, mistakes.earlier(16, 8), mistakes.earlier(16, 7), mistakes.earlier(9, 16),
+               mistakes.earlier(10, 16), mistakes.earlier(11, 16), mistakes.left_out(16),
+               *(entry for entry in mistakes.REFUSAL_TABLE if entry.name.startswith(("row-03-", "row-06-of"))
+                 and "-row-" not in entry.name)),
 ]
 
 
@@ -360,6 +396,46 @@ BLOCKS = [
     last_division("even", "to the nearest, a half to the even one"),
 ]
 
+def put_starts(name, what, new):
+    """The start figures of a block given otherwise."""
+    return wrong(f"block-starts-{name}", f"start figures {what}", (STARTS, new))
+
+
+def laid(name, what, *changes):
+    """Blocks with start figures laid otherwise."""
+    return wrong(f"blocks-starts-{name}", f"start figures {what}", *changes)
+
+
+NOT_WRITTEN = "cells[k * size + len(block):(k + 1) * size]"
+BLOCK_STARTS = [
+    put_starts("not-written", "not written", f"block += {NOT_WRITTEN}"),
+    put_starts("first-block-alone", "written in the first block alone",
+               f"block += start_figures(model, block) if k == 0 else {NOT_WRITTEN}"),
+    put_starts("last-block-alone", "written in the last block alone",
+               f"block += start_figures(model, block) if T == times[-1] else {NOT_WRITTEN}"),
+    put_starts("0-past-the-first", "0 in every block but the first",
+               "block += start_figures(model, block) if k == 0 else [0] * (size - len(block))"),
+    put_starts("before-moments", "before the moments of a block", "block = start_figures(model, block) + block"),
+    put_starts("of-the-first", "those of the first time in every block",
+               "block += start_figures(model, cells if k else block)"),
+    put_starts("of-the-block-before", "those of the time before, from the second block on",
+               "block += start_figures(model, cells[max(0, k - 1) * size:] if k else block)"),
+    put_starts("added", "added up from block to block",
+               "block += [x + (cells[(k - 1) * size + j] if k else 0) "
+               "for j, x in enumerate(start_figures(model, block), len(block))]"),
+    put_starts("r-falling", "from the highest r to the first", "block += start_figures(model, block)[::-1]"),
+    laid("after-all-blocks", "behind the last block, time by time",
+         (STARTS, "starts, block = start_figures(model, block), block"),
+         (PUT_BLOCK, "size = model.M * model.R\n        cells[k * size:(k + 1) * size] = block\n"
+                     "        lay(cells, range(len(times) * size + k * model.R, len(cells)), starts)")),
+    laid("overwritten", "overwritten by the next block, M R cells behind",
+         (PUT_BLOCK, "lay(cells, range(k * model.M * model.R, len(cells)), block)")),
+    laid("room-in-version-1", "given room in version 1 too",
+         (PUT_BLOCK, "lay(cells, range(k * (model.M + 1) * model.R, len(cells)), block)")),
+    laid("from-512", "from cell 512 of a block on",
+         (PUT_BLOCK, "lay(cells, [*range(k * size, k * size + model.M * model.R), *range(512, len(cells))], block)")),
+]
+
 REUSED_VECTORS = [
     wrong("vectors-to-the-first-level", "the vectors worked out as far as the first level, the last of them repeated",
           (VECTORS, "U = reward_vectors(model, found[0])\n    U += [U[-1]] * (max(found) - found[0])")),
@@ -401,11 +477,11 @@ WRITTEN = [
     refused("refusal-in-levels", "a refusal's number in the first level cell", "row", "fill(levels, 0, 1, row)"),
     refused("refusal-in-cells", "a refusal's number in the first block cell", "row", "fill(cells, 0, 1, row)"),
     *(refused(f"refused-{row}-levels", f"levels written although {row} is answered", f"row == {row}", "fill(levels)")
-      for row in (8, 14, 15, 12, 13)),
+      for row in (8, 16, 14, 15, 12, 13)),
     *(refused(f"refused-{row}-cells", f"blocks written although {row} is answered", f"row == {row}", "fill(cells)")
-      for row in (8, 14, 15, 12, 13)),
+      for row in (8, 16, 14, 15, 12, 13)),
     refused("refused-13-what-fits", "what fits of the first block written although 13 is answered", "row == 13",
-            "fill(cells, 0, moments_of(file))"),
+            "fill(cells, 0, block_of(file))"),
     at_the_end("cells-past-the-end-cleared", "cells past the last block set to 0", "fill(cells, len(times) * size)"),
     at_the_end("levels-past-the-end-cleared", "level cells past the last level set to 0", "fill(levels, len(times))"),
     at_the_end("levels-past-the-end-repeated", "level cells past the last level take it too",
@@ -419,7 +495,8 @@ WRITTEN = [
     answered("lent-levels", "the number of level cells lent", "len(levels)"),
 ]
 
-SERIES = (*ROW_8, *ROW_14, *ROW_15, *ROW_12, *ROW_13, *TIMES, *LEVELS, *BLOCKS, *REUSED_VECTORS, *WRITTEN)
+SERIES = (*ROW_8, *ROW_14, *ROW_15, *ROW_12, *ROW_13, *ROW_16, *TIMES, *LEVELS, *BLOCKS, *BLOCK_STARTS,
+          *of_sheets(*mistakes.START_FIGURES), *REUSED_VECTORS, *WRITTEN)
 
 
 # --- Calculate: row 13 ----------------------------------------------------------------------------------------
@@ -431,7 +508,7 @@ def cells_13(name, what, new):
 def cells_13_before(row):
     text = f"    if {FILE_ROWS[row]}:"
     return wrong(f"row-13-before-{row}", f"row 13 tested before row {row}",
-                 (text, f"    if cells < moments_of(file):\n        return 13\n{text}"))
+                 (text, f"    if cells < block_of(file):\n        return 13\n{text}"))
 
 
 def judged(name, what, when, new):
@@ -443,11 +520,22 @@ def ended(name, what, new):
     return wrong(name, what, (CALCULATE_END, CALCULATE_END.replace("    return result\n", new)))
 
 
+def starts(name, what, new):
+    """The start figures of calculate laid otherwise."""
+    return wrong(f"starts-{name}", f"start figures {what}", (PUT_STARTS, new))
+
+
 CALCULATE = (
     cells_13("left-out", "not tested", "False"),
-    cells_13("at-the-last-cell", "just enough cells refused", "cells <= M * R"),
-    cells_13("one-less", "one cell less let through", "cells + 1 < M * R"),
-    cells_13("exact", "more cells than enough refused", "cells != M * R"),
+    cells_13("at-the-last-cell", "just enough cells refused", "cells <= block_size(file)"),
+    cells_13("one-less", "one cell less let through", "cells + 1 < block_size(file)"),
+    cells_13("exact", "more cells than enough refused", "cells != block_size(file)"),
+    cells_13("moments-alone", "the start figures not counted", "cells < M * R"),
+    cells_13("start-in-version-1", "start figures counted in version 1 too", "cells < (M + 1) * R"),
+    cells_13("start-one", "one start figure counted", "cells < M * R + (file[2] == 2)"),
+    cells_13("start-M", "M start figures counted", "cells < M * R + (M if file[2] == 2 else 0)"),
+    cells_13("start-8", "8 start figures counted", "cells < M * R + (8 if file[2] == 2 else 0)"),
+    cells_13("at-most-512", "512 cells enough for every file", "cells < min(block_size(file), 512)"),
     cells_13("none", "only no cells refused", "cells == 0"),
     cells_13("M", "M cells enough", "cells < M"),
     cells_13("R", "R cells enough", "cells < R"),
@@ -455,20 +543,39 @@ CALCULATE = (
     cells_13("M-plus-R", "M + R cells enough", "cells < M + R"),
     cells_13("8-each", "8 cells for every state asked for", "cells < 8 * M"),
     cells_13("512", "512 cells asked for", "cells < 512"),
-    cells_13("8-bit", "M times R in 8 bits", "cells < M * R % 256"),
-    cells_13("8-bit-count", "the count of cells in 8 bits", "cells % 256 < M * R"),
-    *map(cells_13_before, range(1, 13)),
+    cells_13("520", "520 cells asked for", "cells < 520"),
+    cells_13("8-bit", "the cells needed in 8 bits", "cells < block_size(file) % 256"),
+    cells_13("8-bit-count", "the count of cells in 8 bits", "cells % 256 < block_size(file)"),
+    *map(cells_13_before, mistakes.ORDER[:-1]),
     wrong("cells-cleared-first", "the cells set to 0 before the table is tried",
           (CALCULATE_ROW, f"    fill(cells)\n{CALCULATE_ROW}")),
     judged("refused-13-cells", "cells written although 13 is answered", 'result == ("refused", 13)', "fill(cells)"),
     judged("refusal-in-cells", "a refusal's number in the first cell", 'result[0] == "refused"',
            "fill(cells, 0, 1, result[1])"),
-    ended("cells-past-the-end-cleared", "cells past the moments set to 0",
-          "    fill(cells, model.M * model.R)\n    return result\n"),
-    ended("a-cell-too-far", "a cell past the moments written, where there is one",
-          "    fill(cells, model.M * model.R, model.M * model.R + 1)\n    return result\n"),
-    ended("answer-cells", "the number of moments answered", '    return ("level", model.M * model.R)\n'),
+    judged("refused-16-cells", "cells written although 16 is answered", 'result == ("refused", 16)', "fill(cells)"),
+    ended("cells-past-the-end-cleared", "cells past the block set to 0",
+          "    fill(cells, block_size(file))\n    return result\n"),
+    ended("a-cell-too-far", "a cell past the block written, where there is one",
+          "    fill(cells, block_size(file), block_size(file) + 1)\n    return result\n"),
+    ended("R-cells-too-far", "R cells past the moments written in version 1 too, where there are some",
+          "    fill(cells, block_size(file), (model.M + 1) * model.R)\n    return result\n"),
+    ended("answer-cells", "the number of cells answered", '    return ("level", block_size(file))\n'),
     ended("answer-0", "0 answered", '    return ("level", 0)\n'),
+    starts("not-written", "not written", ""),
+    starts("first-alone", "for r = 1 alone", "    lay(cells, [model.M * model.R], start_figures(model, cells))\n"),
+    starts("from-512", "from cell 512 on", "    lay(cells, range(512, len(cells)), start_figures(model, cells))\n"),
+    starts("at-the-end", "in the last cells of the slice",
+           "    lay(cells, range(len(cells) - model.R, len(cells)), start_figures(model, cells))\n"),
+    starts("one-later", "one cell later",
+           "    lay(cells, range(model.M * model.R + 1, len(cells)), start_figures(model, cells))\n"),
+    starts("before-moments", "before the moments",
+           "    size = model.M * model.R\n"
+           "    cells[:block_size(file)] = start_figures(model, cells) + cells[:size]\n"),
+    *of_sheets(*mistakes.VERSION_2, *mistakes.START_FIGURES, *mistakes.START_CELLS[:-1], mistakes.left_out(16),
+               mistakes.tested_last(16), mistakes.earlier(16, 8), mistakes.earlier(16, 7),
+               *(mistakes.earlier(row, 16) for row in (9, 10, 11, 12)),
+               *(entry for entry in mistakes.REFUSAL_TABLE if entry.name.startswith(("row-03-", "row-06-of"))
+                 and "-row-" not in entry.name)),
 )
 
 
@@ -504,5 +611,16 @@ def by_name(entries):
     return result
 
 
-TABLE = {"calculate": by_name(CALCULATE), "remainders": by_name(remainders_mistakes.TABLE), "series": by_name(SERIES)}
-LEFT_OUT = {"remainders": remainders_mistakes.EQUIVALENT, "series": EQUIVALENT}
+TABLE = {
+    "calculate": by_name(CALCULATE),
+    "remainders": by_name(remainders_mistakes.TABLE),
+    "series": by_name(SERIES),
+    "to_version_1": by_name(move_mistakes.TO_VERSION_1),
+    "to_version_2": by_name(move_mistakes.TO_VERSION_2),
+}
+LEFT_OUT = {
+    "remainders": remainders_mistakes.EQUIVALENT,
+    "series": EQUIVALENT,
+    "to_version_1": move_mistakes.EQUIVALENT_1,
+    "to_version_2": move_mistakes.EQUIVALENT_2,
+}

@@ -57,20 +57,40 @@ FROM_HALF = "2 * left >= S"
 LAST = f"quotient, left = divmod(A * ONE, S)\n    return quotient + 1 if {FROM_HALF} else quotient"
 OVER_S = "last_division(A, sum(w[:N + 1]))"
 CELL = "cells[(i - 1) * model.R + (r - 1)] = "
+MOMENT_CELL = "cells[(i - 1) * R + (r - 1)]"
+START_SUM = "sum(map(mul, model.a, moments[r - 1::model.R]))"
+START = f"{START_SUM} // MILLION"
+STARTS = f"[{START} for r in range(1, model.R + 1)]"
+PUT_STARTS = "    cells[model.M * model.R:block_size(file)] = start_figures(model, cells)\n"
 FIGURE = "{ticks // ONE}.{ticks % ONE:012d}"
 LINE = "{i} {r} " + FIGURE + '"'
+STATE_LINE = f"sheet_line(i, r, {MOMENT_CELL})"
+START_LINE = 'sheet_line("start", r, cells[M * R + (r - 1)])'
+START_LINES = f"            for r in range(1, R + 1):\n                lines.append({START_LINE})\n"
+MOMENT_LINES = ("        for i in range(1, M + 1):\n            for r in range(1, R + 1):\n"
+                f"                lines.append({STATE_LINE})\n")
 ENDED = 'line + "\\n" for line in lines'
 ENCODED = 'encode("ascii")'
 INPUT = "file = file[:READ_LIMIT]"
 READ = "return sys.stdin.buffer.read(READ_LIMIT)"
+ADMITTED = "versions=(1, 2)"
+LENGTH = "right_length(file[2], M)"
+WEIGHT = "number(file, 13 + 4 * i, 4)"
+WEIGHTS_READ = f"[{WEIGHT} for i in range(M)] if"
+FIRST_REWARD = "13 + 4 * M if file[2] == 2 else 13"
+REWARDS_FROM = "first = first_reward(file, M)\n"
+RATES_FROM = "first = first_reward(file, M) + 4 * M\n"
+WEIGHT_SUM = "sum(read_starts(file, M))"
 
-# The refusal table, row by row.
+# The refusal table, row by row, and its rows in their order.
 ROWS = {
-    1: "len(file) < 13", 2: "length != len(file) - 2", 3: "file[2] != 1", 4: "M == 0 or M > 64", 5: "R == 0 or R > 8",
-    6: "length != 4 * M * M + 11", 7: "epsilon == 0 or epsilon > 100_000_000", 8: "T == 0", 9: "max(f) > 1_000_000",
-    10: "max(f) == 0", 11: "max(sum(row) for row in rates) > 10_000_000",
-    12: "uniformization_rate(rates) * T > 256_000_000", 13: "cells < M * R",
+    1: "len(file) < 13", 2: "length != len(file) - 2", 3: "file[2] not in versions", 4: "M == 0 or M > 64",
+    5: "R == 0 or R > 8", 6: f"length != {LENGTH}", 7: "epsilon == 0 or epsilon > 100_000_000", 8: "T == 0",
+    16: f"file[2] == 2 and {WEIGHT_SUM} != MILLION", 9: "max(f) > 1_000_000", 10: "max(f) == 0",
+    11: "max(sum(row) for row in rates) > 10_000_000", 12: "uniformization_rate(rates) * T > 256_000_000",
+    13: "cells < block_size(file)",
 }
+ORDER = [*ROWS]
 
 
 # --- Helpers for the new texts -----------------------------------------------------------------------
@@ -224,16 +244,24 @@ def row_holds(row, file):
     """Whether a row of the refusal table holds, whatever rows before it do."""
     def number(start, size):
         return int.from_bytes(file[start:start + size], "big")
-    M, R, epsilon, T = number(3, 1), number(4, 1), number(5, 4), number(9, 4)
-    f = [number(13 + 4 * i, 4) for i in range(M)]
-    rates = [number(start, 4) for start in range(13 + 4 * M, len(file), 4)]
+    version, M, R, epsilon, T = number(2, 1), number(3, 1), number(4, 1), number(5, 4), number(9, 4)
+    starts = M if version == 2 else 0
+    a, f = ([number(13 + 4 * (first + i), 4) for i in range(M)] for first in (0, starts))
+    rates = [number(start, 4) for start in range(13 + 4 * (starts + M), len(file), 4)]
     sums = [sum(rates[i * (M - 1):(i + 1) * (M - 1)]) for i in range(M)]
     return {
-        2: number(0, 2) != len(file) - 2, 3: number(2, 1) != 1, 4: not 1 <= M <= 64, 5: not 1 <= R <= 8,
-        6: number(0, 2) != 4 * M * M + 11, 7: not 1 <= epsilon <= 100_000_000, 8: T == 0,
+        2: number(0, 2) != len(file) - 2, 3: version not in (1, 2), 4: not 1 <= M <= 64, 5: not 1 <= R <= 8,
+        6: number(0, 2) != 4 * M * M + 4 * starts + 11, 7: not 1 <= epsilon <= 100_000_000, 8: T == 0,
+        16: version == 2 and sum(a) != 1_000_000,
         9: any(a > 1_000_000 for a in f), 10: not any(f), 11: any(a > 10_000_000 for a in sums),
         12: (max(sums, default=0) or 1) * T > 256_000_000,
     }[row]
+
+
+def by_length(file):
+    """The file with the version that its length tells, where it is that of one."""
+    M, length = file[3], len(file) - 2 - 4 * file[3]**2 - 11
+    return file[:2] + {0: b"\1", 4 * M: b"\2"}.get(length, file[2:3]) + file[3:]
 
 
 def row_by_row(rates, T):
@@ -280,17 +308,19 @@ def read_pieces(stream, size, most, enough=lambda file: False):
 
 HELPERS = (math.comb, up, nearest, even, binary64, binary32, extended, significant64, nearest_to, decimal, added,
            digits15, signed, signed_bytes, by_columns, overwritten, unless_still, poisson, cut_once, e_to_q,
-           relation_10, exponent, as_binary64, crash, row_holds, row_by_row, state_by_state, read_pieces)
+           relation_10, exponent, as_binary64, crash, row_holds, by_length, row_by_row, state_by_state, read_pieces)
 
 
 # --- The model file --------------------------------------------------------------------------------
 
+REWARDS_AT = "first_reward(file, file[3])"
 FIELDS = {
     "length": "start == 0",
     "tolerance": "start == 5",
     "time": "start == 9",
-    "rewards": "13 <= start < 13 + 4 * file[3]",
-    "rates": "start >= 13 + 4 * file[3]",
+    "starting-weights": f"13 <= start < {REWARDS_AT}",
+    "rewards": f"0 <= start - {REWARDS_AT} < 4 * file[3]",
+    "rates": f"start >= {REWARDS_AT} + 4 * file[3]",
 }
 
 
@@ -323,11 +353,15 @@ MODEL_FILE = [
           (RATES, RATES.replace("in range(M)", "in reversed(range(M))"))),
     wrong("rates-with-diagonal", "a diagonal read from the file", ("row_size = 4 * (M - 1)", "row_size = 4 * M"),
           ("first + i * row_size + 4 * k", "first + i * row_size + 4 * (k + (k >= i))")),
-    wrong("rewards-after-rates", "rewards read behind the rates", ("number(file, 13 + 4 * i, 4)",
-          "number(file, 13 + 4 * M * (M - 1) + 4 * i, 4)"), ("first = 13 + 4 * M", "first = 13")),
-    *(wrong(f"read-limit-{limit}", f"{what} bytes read", ("READ_LIMIT = 16398", f"READ_LIMIT = {limit}"))
+    wrong("rewards-after-rates", "rewards read behind the rates",
+          (REWARDS_FROM, "first = first_reward(file, M) + 4 * M * (M - 1)\n"),
+          (RATES_FROM, "first = first_reward(file, M)\n")),
+    *(wrong(f"read-limit-{limit}", f"{what} bytes read", ("READ_LIMIT = 16654", f"READ_LIMIT = {limit}"))
       for limit, what in ((4096, "at most 4,096"), (16384, "at most 16,384"), (16397, "at most 16,397"),
-                          (16399, "at most 16,399"), (10**9, "all"))),
+                          (16398, "at most 16,398, those of version 1,"), (16653, "at most 16,653"),
+                          (16655, "at most 16,655"), (10**9, "all"))),
+    *(wrong(f"cells-lent-{cells}", f"{cells} cells lent", ("LENT_CELLS = 520", f"LENT_CELLS = {cells}"))
+      for cells in (512, 519)),
     wrong("text-mode-1A", "input in text mode, ended by byte 1A", (INPUT, INPUT + '.split(b"\\x1a")[0]')),
     wrong("text-mode-0D-0A", "input in text mode, 0D 0A read as 0A", (INPUT, INPUT + '.replace(b"\\r\\n", b"\\n")')),
     wrong("text-mode-0D", "input in text mode, 0D read as 0A", (INPUT, INPUT + '.replace(b"\\r", b"\\n")')),
@@ -361,19 +395,29 @@ def tested_last(row):
                  (f"    if {ROWS[13]}:", f"    if row_holds({row}, file):\n        return {row}\n    if {ROWS[13]}:"))
 
 
+def one_before():
+    """Every row but the first and the last tested before the one before it; 9 and 10 do not hold together."""
+    return [earlier(row, before) for before, row in zip(ORDER, ORDER[1:-1]) if row != 10]
+
+
 REFUSAL_TABLE = [
-    *map(left_out, range(1, 13)),
-    *(earlier(row, row - 1) for row in range(2, 13) if row != 10),
-    *(earlier(row, row - 2) for row in range(3, 13)),
-    *(earlier(row, 2) for row in range(5, 13)),
-    *map(tested_last, range(2, 11)),
+    *map(left_out, ORDER[:-1]),
+    *one_before(),
+    *(earlier(row, before) for before, row in zip(ORDER, ORDER[2:-1])),
+    *(earlier(row, 2) for row in ORDER[4:-1]),
+    *(earlier(row, 16) for row in (11, 12)),
+    *map(tested_last, ORDER[1:-3]),
     border(1, "at-13", "a file of 13 bytes refused", "len(file) <= 13"),
     border(1, "below-12", "a file of 12 bytes let through", "len(file) < 12"),
     border(2, "only-too-short", "only bytes missing refused", "length > len(file) - 2"),
     border(2, "only-too-long", "only bytes too many refused", "length < len(file) - 2"),
     border(2, "8-bit", "the lower bytes of the lengths compared", "length % 256 != (len(file) - 2) % 256"),
-    border(3, "only-above-1", "version 0 let through", "file[2] > 1"),
-    border(3, "only-0", "versions above 1 let through", "file[2] == 0"),
+    border(3, "only-above-2", "version 0 let through", "file[2] > 2"),
+    border(3, "only-0", "versions above 2 let through", "file[2] == 0"),
+    border(3, "without-2", "version 2 refused", "file[2] != 1"),
+    border(3, "without-1", "version 1 refused", "file[2] != 2"),
+    border(3, "with-3", "version 3 let through as version 1", "file[2] not in (1, 2, 3)"),
+    border(3, "2-bits", "a version let through by its last two bits", "file[2] & 3 not in (1, 2)"),
     border(4, "without-0", "M = 0 let through", "M > 64"),
     border(4, "without-limit", "no upper limit", "M == 0"),
     border(4, "at-64", "M = 64 refused", "M == 0 or M >= 64"),
@@ -384,11 +428,20 @@ REFUSAL_TABLE = [
     border(5, "at-8", "R = 8 refused", "R == 0 or R >= 8"),
     border(5, "at-9", "R = 9 let through", "R == 0 or R > 9"),
     border(5, "at-1", "R = 1 refused", "R <= 1 or R > 8"),
-    border(6, "only-too-short", "only a length too small refused", "length < 4 * M * M + 11"),
-    border(6, "only-too-long", "only a length too large refused", "length > 4 * M * M + 11"),
-    border(6, "one-less", "the length 4 M M + 10", "length != 4 * M * M + 10"),
-    border(6, "8-bit", "4 M M + 11 in 8 bits", "length != (4 * M * M + 11) % 2**8"),
-    border(6, "with-diagonal", "room for M rates in a row", "length != 4 * M * M + 4 * M + 11"),
+    border(6, "only-too-short", "only a length too small refused", f"length < {LENGTH}"),
+    border(6, "only-too-long", "only a length too large refused", f"length > {LENGTH}"),
+    border(6, "one-less", "a length that is one less", f"length != {LENGTH} - 1"),
+    border(6, "8-bit", "the right length in 8 bits", f"length != {LENGTH} % 2**8"),
+    border(6, "with-diagonal", "room for M rates in a row", f"length != {LENGTH} + 4 * M"),
+    border(6, "of-version-1", "the length of version 1 for both", "length != right_length(1, M)"),
+    border(6, "of-version-2", "the length of version 2 for both", "length != right_length(2, M)"),
+    border(6, "of-either-version", "the length of either version let through",
+           "length not in (right_length(1, M), right_length(2, M))"),
+    border(6, "of-the-other-version", "the lengths of the versions exchanged",
+           "length != right_length(3 - file[2], M)"),
+    border(6, "without-version-2", "not tested in version 2", f"file[2] == 1 and {ROWS[6]}"),
+    border(6, "a-weight-less", "M - 1 weights, the last being what is left",
+           f"length != {LENGTH} - (4 if file[2] == 2 else 0)"),
     border(7, "without-0", "tolerance 0 let through", "epsilon > 100_000_000"),
     border(7, "without-limit", "no upper limit", "epsilon == 0"),
     border(7, "at-100000000", "tolerance 100,000,000 refused", "epsilon == 0 or epsilon >= 100_000_000"),
@@ -434,7 +487,171 @@ REFUSAL_TABLE = [
            "signed(uniformization_rate(rates) * T, 32) > 256_000_000"),
     border(12, "whole-q", "q rounded down, above 256", "uniformization_rate(rates) * T // MILLION > 256"),
     border(12, "without-rates", "not tested where all rates are 0", "max(map(sum, rates)) * T > 256_000_000"),
-    border(13, "at-the-last-cell", "512 cells taken to be too few for 512 moments", "cells <= M * R"),
+    border(13, "at-the-last-cell", "520 cells taken to be too few for 520 figures", "cells <= block_size(file)"),
+]
+
+
+# --- Version 2: its weights, row 16 ---------------------------------------------------------------------
+
+def sums(name, what, new):
+    """Row 16 by another sum."""
+    return border(16, name, what, f"file[2] == 2 and {new} != MILLION")
+
+
+def read_otherwise(name, what, *changes):
+    return wrong(f"starting-weights-{name}", f"starting weights {what}", *changes)
+
+
+AS_VERSION_2 = (
+    ("if version == 2 else 4 * M", "if version >= 2 else 4 * M"),
+    ("if file[2] == 2 else []", "if file[2] >= 2 else []"),
+    (FIRST_REWARD, FIRST_REWARD.replace("==", ">=")), ("(M + 1) * R if file[2] == 2", "(M + 1) * R if file[2] >= 2"),
+    (ROWS[16], ROWS[16].replace("==", ">=")), ("        if file[2] == 2:\n", "        if file[2] >= 2:\n"))
+# Mistakes that every call that reads a file may have.
+VERSION_2 = [
+    wrong("version-3-as-2", "version 3 read as version 2", (ADMITTED, "versions=(1, 2, 3)"), *AS_VERSION_2),
+    wrong("versions-from-2", "every version above 2 read as version 2",
+          (f"if {ROWS[3]}:", "if file[2] == 0:"), *AS_VERSION_2),
+    wrong("version-by-length", "the version told by the length, whatever byte 2 is",
+          ("        return 3\n    M, R = file[3], file[4]\n", "        return 3\n    M, R = file[3], file[4]\n"
+           "    file = by_length(file)\n"),
+          ("    M, R = file[3], file[4]\n    f =", "    file = by_length(file)\n    M, R = file[3], file[4]\n    f =")),
+    *(border(16, name, what, new) for name, what, new in (
+        ("above-alone", "only a sum that is too large refused", ROWS[16].replace("!=", ">")),
+        ("below-alone", "only a sum that is too small refused", ROWS[16].replace("!=", "<")),
+        ("one-off", "a sum one off let through", f"file[2] == 2 and abs({WEIGHT_SUM} - MILLION) > 1"),
+        ("one-more", "1,000,001 asked for", ROWS[16].replace("MILLION", "MILLION + 1")),
+        ("sum-0", "a sum of 0 let through", f"file[2] == 2 and {WEIGHT_SUM} not in (0, MILLION)"),
+        ("each", "tested on each weight alone", "max(read_starts(file, M), default=0) > MILLION"),
+        ("weight-0", "a weight of 0 refused", f"{ROWS[16]} or 0 in read_starts(file, M)"),
+        ("million", "a weight of 1,000,000 refused", f"{ROWS[16]} or MILLION in read_starts(file, M)"),
+        ("last-as-the-rest", "the last weight taken for what is left, whatever it is",
+         f"file[2] == 2 and {WEIGHT_SUM} - read_starts(file, M)[-1] > MILLION"))),
+    *(sums(name, what, new) for name, what, new in (
+        ("32-bit", "the sum in 32 bits", f"{WEIGHT_SUM} % 2**32"),
+        ("31-bit", "the sum in 31 bits", f"{WEIGHT_SUM} % 2**31"),
+        ("24-bit", "the sum in 24 bits", f"{WEIGHT_SUM} % 2**24"),
+        ("sign-extended", "weights in 32 bits with a sign, summed in 64 bits",
+         "sum(signed(a, 32) for a in read_starts(file, M))"),
+        ("20-bit", "each weight in 20 bits", "sum(a % 2**20 for a in read_starts(file, M))"),
+        ("without-first", "the sum without the first state", f"({WEIGHT_SUM} - read_starts(file, M)[0])"),
+        ("without-last", "the sum without the last state", f"({WEIGHT_SUM} - read_starts(file, M)[-1])"),
+        ("without-largest", "without a weight above 1,000,000",
+         "sum(a for a in read_starts(file, M) if a <= MILLION)"),
+        ("each-at-most", "each weight above 1,000,000 taken as that",
+         "sum(min(a, MILLION) for a in read_starts(file, M))"),
+        ("of-rewards", "the sum of the rewards", "sum(read_rewards(file, M))"),
+        ("one-step", "the sum of the first two weights", "sum(read_starts(file, M)[:2])"))),
+    border(16, "16-bit", "the sum compared in 16 bits", f"file[2] == 2 and ({WEIGHT_SUM} - MILLION) % 2**16"),
+    wrong("row-16-as-9", "row 16 answered with 9", ("        return 16\n", "        return 9\n")),
+    wrong("row-16-as-14", "row 16 answered with 14", ("        return 16\n", "        return 14\n")),
+    wrong("row-16-normalised", "weights of any sum let through, figures over their sum",
+          (f"if {ROWS[16]}:", "if file[2] == 2 and not any(read_starts(file, M)):"),
+          (START, START.replace("MILLION", "sum(model.a)"))),
+    read_otherwise("after-rewards", "read behind the rewards", (WEIGHT, "number(file, 13 + 4 * M + 4 * i, 4)"),
+                   (REWARDS_FROM, "first = 13\n")),
+    read_otherwise("after-rates", "read behind the rates", (WEIGHT, "number(file, 13 + 4 * M * M + 4 * i, 4)"),
+                   (FIRST_REWARD, "13")),
+    read_otherwise("between-rewards", "read state by state, each before its reward",
+                   (WEIGHT, "number(file, 13 + (8 if M > 1 else 4) * i, 4)"),
+                   ("return [number(file, first + 4 * i, 4) for i in range(M)]",
+                    "return [number(file, first - 4 * M + 8 * i + 4 if file[2] == 2 else first + 4 * i, 4) "
+                    "for i in range(M)]")),
+    read_otherwise("read-as-rewards", "taken for the rewards as well", (REWARDS_FROM, "first = 13\n")),
+    read_otherwise("skipped-nowhere", "not skipped, rewards and rates read from byte 13 on", (FIRST_REWARD, "13")),
+    read_otherwise("not-before-rates", "not skipped before the rates", (RATES_FROM, "first = 13 + 4 * M\n")),
+    read_otherwise("skipped-in-version-1", "skipped in version 1 too", (FIRST_REWARD, "13 + 4 * M")),
+]
+
+
+# --- Version 2: start figures ----------------------------------------------------------------------------
+
+def started_by(name, what, new):
+    """Another start figure."""
+    return wrong(f"start-{name}", f"start figures {what}", (START, new))
+
+
+def weighed(name, what, weights="model.a", moments="moments[r - 1::model.R]"):
+    """Start figures with other weights or of other moments."""
+    return started_by(name, what, START.replace("model.a", weights).replace("moments[r - 1::model.R]", moments))
+
+
+def of_terms(name, what, term):
+    """Start figures with each product divided."""
+    return started_by(name, what, f"sum({term} for a, x in zip(model.a, moments[r - 1::model.R]))")
+
+
+# Those that do not depend on who calls: they stand in start_figures.
+START_FIGURES = [
+    started_by("nearest", "rounded to the nearest", f"nearest({START_SUM}, MILLION)"),
+    started_by("even", "rounded to the nearest, a half to the even one", f"even({START_SUM}, MILLION)"),
+    started_by("half-down", "rounded to the nearest, a half going down", f"up(2 * {START_SUM} - MILLION, 2 * MILLION)"),
+    started_by("up", "rounded up", f"up({START_SUM}, MILLION)"),
+    started_by("one-more", "one tick more, as where the quotient is corrected", f"{START} + 1"),
+    of_terms("each-term", "with each product divided, down", "a * x // MILLION"),
+    of_terms("each-term-nearest", "with each product divided, to the nearest", "nearest(a * x, MILLION)"),
+    of_terms("each-term-up", "with each product divided, up", "up(a * x, MILLION)"),
+    started_by("first-divided", "with the moments divided by 1,000,000 first",
+               "sum(a * (x // MILLION) for a, x in zip(model.a, moments[r - 1::model.R]))"),
+    started_by("binary64", "divided in binary64", f"int({START_SUM} / 1e6)"),
+    started_by("binary64-sum", "summed and divided in binary64",
+               "int(added(float(a) * x for a, x in zip(model.a, moments[r - 1::model.R])) / 1e6)"),
+    started_by("binary64-shares", "with the weights over 1,000,000 in binary64",
+               "int(added(a / 1e6 * x for a, x in zip(model.a, moments[r - 1::model.R])))"),
+    started_by("binary32-weights", "with the weights in binary32 over 1,000,000",
+               "int(added(binary32(a / 1e6) * x for a, x in zip(model.a, moments[r - 1::model.R])))"),
+    started_by("15-digits", "from a sum with 15 digits", f"digits15({START_SUM}) // MILLION"),
+    started_by("32-bit-products", "from products in 32 bits",
+               "sum(a * x % 2**32 for a, x in zip(model.a, moments[r - 1::model.R])) // MILLION"),
+    weighed("reversed", "with the weights from the last state to the first", weights="model.a[::-1]"),
+    weighed("without-first", "without the first state", "model.a[1:]", "moments[model.R + r - 1::model.R]"),
+    weighed("without-last", "without the last state", "model.a[:-1]"),
+    weighed("shifted", "with the weights one state off", weights="model.a[1:] + model.a[:1]"),
+    weighed("even-weights", "as the plain mean of the states", weights="[MILLION // model.M] * model.M"),
+    weighed("percent", "with the weights in percent", weights="[a // 10_000 * 10_000 for a in model.a]"),
+    weighed("thousandths", "with the weights in thousandths", weights="[a // 1_000 * 1_000 for a in model.a]"),
+    weighed("billionths", "over 10^9")._replace(changes=((START, f"{START_SUM} // BILLION"),)),
+    weighed("first-moments", "of r = 1 for every r", moments="moments[::model.R]"),
+    weighed("last-moments", "of R for every r", moments="moments[model.R - 1::model.R]"),
+    weighed("r-by-r", "of moments taken r by r", moments="moments[(r - 1) * model.M:r * model.M]"),
+    weighed("squares", "with the weights squared", weights="[a * a // MILLION for a in model.a]"),
+    started_by("state-1", "those of the first state", "moments[r - 1]"),
+    started_by("heaviest-state", "those of the state with the largest weight",
+               "moments[model.a.index(max(model.a)) * model.R + r - 1]"),
+    started_by("largest", "the largest moments", "max(moments[r - 1:model.M * model.R:model.R])"),
+    started_by("powers", "powers of the first", "sum(map(mul, model.a, moments[::model.R]))**r // MILLION**r "
+                                                "// ONE**(r - 1)"),
+    started_by("not-divided", "not divided", START_SUM),
+    wrong("start-r-falling", "start figures from the highest r to the first",
+          (STARTS, STARTS.replace("range(1, model.R + 1)", "range(model.R, 0, -1)"))),
+]
+
+
+def from_sums(name, what, new):
+    """Start figures from the sums A of the states in place of their moments."""
+    return wrong(f"start-{name}", f"start figures {what}", (PUT_STARTS, (
+        "    for r in range(1, model.R + 1) if model.a else []:\n"
+        "        A = [sum(w[n] * U[n][r][i] // ONE for n in range(N + 1)) for i in range(model.M)]\n"
+        f"        cells[model.M * model.R + r - 1] = {new}\n")))
+
+
+# Those of the program and of the call `calculate`.
+START_CELLS = [
+    from_sums("of-exact-moments", "of moments that are not rounded",
+              "sum(map(mul, model.a, A)) * ONE // (sum(w) * MILLION)"),
+    from_sums("of-exact-moments-nearest", "of moments that are not rounded, to the nearest",
+              "last_division(sum(map(mul, model.a, A)), sum(w) * MILLION)"),
+    from_sums("of-moments-down", "of moments rounded down",
+              "sum(a * (x * ONE // sum(w)) for a, x in zip(model.a, A)) // MILLION"),
+    from_sums("of-sums", "by the last division of the weighted sums, down",
+              "last_division(sum(map(mul, model.a, A)) // MILLION, sum(w))"),
+    from_sums("of-vectors", "from the vectors weighted first, down",
+              "last_division(sum(w[n] * (sum(map(mul, model.a, U[n][r])) // MILLION) // ONE "
+              "for n in range(N + 1)), sum(w))"),
+    wrong("start-in-version-1", "start figures in version 1 too, those of state 1",
+          (PUT_STARTS, "    cells[model.M * model.R:(model.M + 1) * model.R] = "
+                       "start_figures(model, cells) or cells[:model.R]\n"),
+          ("        if file[2] == 2:\n", "        if True:\n")),
 ]
 
 
@@ -628,8 +845,8 @@ MOMENTS = [
           (TERM, "w[n] * U[n][r][i] / ONE"), (LAST, "return int(A * ONE / S + 0.5)")),
     wrong("exact-fractions", "the exact average up to N, rounded once",
           ("moment(w, U, N, i - 1, r)\n", "nearest(*(average(model, N, i, r) * ONE).as_integer_ratio())\n")),
-    wrong("variance", "the variance in place of the second moment", ("ticks = cells[(i - 1) * R + (r - 1)]",
-          "ticks = cells[(i - 1) * R + (r - 1)] - (cells[(i - 1) * R]**2 // ONE if r == 2 else 0)")),
+    wrong("variance", "the variance in place of the second moment",
+          (MOMENT_CELL, f"{MOMENT_CELL} - (cells[(i - 1) * R]**2 // ONE if r == 2 else 0)")),
     wrong("cells-r-by-r", "the moments in their cells r by r", (CELL, "cells[(r - 1) * model.M + (i - 1)] = ")),
     wrong("cells-eight-each", "eight cells for every state", (CELL, "cells[(i - 1) * 8 + (r - 1)] = ")),
 ]
@@ -730,7 +947,53 @@ def figure(name, what, new):
     return wrong(name, what, (LINE, LINE.replace(FIGURE, new)))
 
 
+def state_line(name, what, state):
+    """The state printed otherwise."""
+    return wrong(name, what, (STATE_LINE, STATE_LINE.replace("(i", f"({state}", 1)))
+
+
+def start_line(name, what, new):
+    """Another line for a start figure."""
+    return wrong(f"start-lines-{name}", f"start lines {what}", (START_LINE, new))
+
+
+def start_word(name, what, new):
+    """Another word in the place of `start`."""
+    return start_line(name, what, START_LINE.replace('"start"', new))
+
+
+START_SHEET = [
+    wrong("start-lines-missing", "start lines left out", ("        if file[2] == 2:\n", "        if False:\n")),
+    wrong("start-lines-first-r", "start lines for r = 1 alone",
+          (START_LINES, START_LINES.replace("range(1, R + 1)", "(1,)"))),
+    wrong("start-lines-without-last-r", "start lines without that of R",
+          (START_LINES, START_LINES.replace("range(1, R + 1)", "range(1, max(R, 2))"))),
+    wrong("start-lines-r-falling", "start lines from R to 1",
+          (START_LINES, START_LINES.replace("range(1, R + 1)", "range(R, 0, -1)"))),
+    wrong("start-lines-first", "start lines before those of the states",
+          (MOMENT_LINES, f"        if file[2] == 2:\n{START_LINES}{MOMENT_LINES}"),
+          (f"        if file[2] == 2:\n{START_LINES}    return", "    return")),
+    start_word("as-state", "labelled M + 1", "M + 1"),
+    start_word("as-0", "labelled 0", "0"),
+    start_word("capital", "with a capital first letter", '"Start"'),
+    start_word("colon", "with a colon", '"start:"'),
+    start_word("starts", "labelled starts", '"starts"'),
+    start_word("all", "labelled all", '"all"'),
+    start_word("with-M", "with M behind the word", 'f"start {M}"'),
+    start_line("without-r", "without r", 'sheet_line("start", r, cells[M * R + (r - 1)]).replace(f" {r}", "", 1)'),
+    start_line("r-first", "with r before the word", 'sheet_line(r, "start", cells[M * R + (r - 1)])'),
+    start_line("r-from-0", "with r counted from 0", 'sheet_line("start", r - 1, cells[M * R + (r - 1)])'),
+    start_line("first-cell", "with the figures of the first cells", 'sheet_line("start", r, cells[r - 1])'),
+    start_line("last-state", "with the figures of the last state",
+               'sheet_line("start", r, cells[(M - 1) * R + (r - 1)])'),
+    start_line("cell-512", "with the figures of the cells from 512 on", 'sheet_line("start", r, cells[512 + (r - 1)])'),
+    start_line("in-millionths", "with six digits", 'sheet_line("start", r, cells[M * R + (r - 1)])[:-6]'),
+    wrong("start-lines-for-64-missing", "start lines left out where there are more than 512 cells",
+          ("        if file[2] == 2:\n", "        if file[2] == 2 and block_size(file) <= 512:\n")),
+]
+
 SHEET = [
+    *START_SHEET,
     figure("eleven-digits", "eleven digits", "{ticks // ONE}.{ticks % ONE // 10:011d}"),
     figure("thirteen-digits", "thirteen digits", "{ticks // ONE}.{ticks % ONE * 10:013d}"),
     figure("digits-not-filled", "zeros left out behind the point", "{ticks // ONE}.{ticks % ONE}"),
@@ -745,11 +1008,11 @@ SHEET = [
     figure("figure-binary64", "the digits taken from the value in binary64",
            "{as_binary64(ticks) // ONE}.{as_binary64(ticks) % ONE:012d}"),
     figure("figure-in-percent", "percent", "{ticks // 10**10}.{ticks % 10**10:010d}"),
-    wrong("states-one-digit", "states printed as one character", (LINE, LINE.replace("{i}", "{chr(48 + i)}"))),
-    wrong("states-from-0", "states counted from 0", (LINE, LINE.replace("{i}", "{i - 1}"))),
+    state_line("states-one-digit", "states printed as one character", "chr(48 + i)"),
+    state_line("states-from-0", "states counted from 0", "i - 1"),
     wrong("r-from-0", "r counted from 0", (LINE, LINE.replace("{r}", "{r - 1}"))),
     wrong("r-before-state", "r printed before the state", (LINE, LINE.replace("{i} {r}", "{r} {i}"))),
-    wrong("columns-filled", "states printed with two places", (LINE, LINE.replace("{i}", "{i:2d}"))),
+    state_line("columns-filled", "states printed with two places", 'f"{i:2d}"'),
     wrong("tabs", "fields parted by tabs", (LINE, LINE.replace("} {", "}\\t{"))),
     wrong("trailing-space", "a space at the end of lines", (ENDED, ENDED.replace("\\n", " \\n"))),
     wrong("lines-r-by-r", "the lines r by r", ("for i in range(1, M + 1):\n            for r in range(1, R + 1):",
@@ -783,14 +1046,14 @@ WRITE = "sys.stdout.buffer.write(output)"
 PROGRAMS = [
     program("single-read", "input read once", (READ, f"return {STDIN}.read(READ_LIMIT)")),
     program("two-reads", "13 bytes read, then the others at once",
-            (READ, f"return {STDIN}.read(13) + {STDIN}.read(16385)")),
+            (READ, f"return {STDIN}.read(13) + {STDIN}.read(16641)")),
     program("four-reads", "at most four reads", (READ, f"return b''.join({STDIN}.read(READ_LIMIT) for _ in range(4))")),
     program("short-read-is-the-end", "a read of fewer than 4,096 bytes taken for the last",
             (READ, f"return read_pieces({STDIN}, 4096, READ_LIMIT, lambda file: len(file) % 4096)")),
     program("read-to-its-length", "nothing read behind the length that the file gives",
             (READ, f"return read_pieces({STDIN}, READ_LIMIT, READ_LIMIT, "
              "lambda file: len(file) >= 2 and len(file) >= 2 + number(file, 0, 2))")),
-    program("read-without-end", "input read until 16,398 bytes are there, no end seen",
+    program("read-without-end", "input read until 16,654 bytes are there, no end seen",
             (READ, f"file = b''\n    while len(file) < READ_LIMIT:\n        file += {STDIN}.read(READ_LIMIT)\n"
              "    return file"), time_limit=1),
     program("CRLF", "lines ended by 0D 0A", (WRITE, 'sys.stdout.buffer.write(output.replace(b"\\n", b"\\r\\n"))')),
@@ -839,15 +1102,29 @@ EQUIVALENT = [
           (LINE, LINE.replace(FIGURE, "{ticks / ONE:.12f}"))),
     wrong("length-signed", "the length as 16 bits with a sign: 32,768 and more never fits the bytes read",
           (NUMBER, f"signed({NUMBER}, 16) if start == 0 else {NUMBER}")),
-    border(6, "16-bit", "4 M M + 11 in 16 bits: it is 16,395 at most, as M is at most 64 by row 4",
-           "length != (4 * M * M + 11) % 2**16"),
+    border(6, "16-bit", "the right length in 16 bits: it is 16,651 at most, as M is at most 64 by row 4",
+           f"length != {LENGTH} % 2**16"),
     earlier(10, 9)._replace(what="row 10 tested before row 9: rewards that are all 0 are not above their limit"),
-    border(13, "left-out", "not tested: 512 cells are enough for 64 states and 8 moments", "False"),
+    border(13, "left-out", "not tested: 520 cells are enough for 64 states, the start and 8 moments", "False"),
+    sums("64-bit", "the sum in 64 bits: 64 weights below 2^32", f"{WEIGHT_SUM} % 2**64"),
+    sums("held-at-2-32", "the sum held at 2^32 - 1: 1,000,000 is below", f"min({WEIGHT_SUM}, 2**32 - 1)"),
+    border(16, "by-the-rest", "the weights taken off 1,000,000 one after the other, and ending at 0",
+           f"file[2] == 2 and MILLION - {WEIGHT_SUM}"),
+    started_by("64-bit-signed", "from a sum in 64 bits with a sign: it is at most 10^18",
+               f"signed({START_SUM}, 64) // MILLION"),
+    started_by("over-the-sum", "over the sum of the weights: by row 16 it is 1,000,000",
+               f"{START_SUM} // sum(model.a)"),
+    started_by("from-the-last", "summed from the last state: a sum of whole numbers has no order",
+               "sum(map(mul, model.a[::-1], moments[r - 1:model.M * model.R:model.R][::-1])) // MILLION"),
+    started_by("with-the-rests", "from quotients and remainders: the remainders are summed and divided too",
+               "sum(a * (x // MILLION) for a, x in zip(model.a, moments[r - 1::model.R])) + "
+               "sum(a * (x % MILLION) for a, x in zip(model.a, moments[r - 1::model.R])) // MILLION"),
+    started_by("at-most-one", "never above 10^12: no moment is", f"min({START}, ONE)"),
 ]
 
 CALCULATION = (*CHAIN, *VECTORS, *WEIGHT_LIST, *LEVEL, *MOMENTS, *LAST_DIVISION)
 TABLE = {}
-for _entry in (*MODEL_FILE, *REFUSAL_TABLE, *CALCULATION, *SHEET, *PROGRAMS):
+for _entry in (*MODEL_FILE, *REFUSAL_TABLE, *VERSION_2, *CALCULATION, *START_FIGURES, *START_CELLS, *SHEET, *PROGRAMS):
     if _entry.name in TABLE:
         raise ValueError(f"two wrong calculators are named {_entry.name}")
     TABLE[_entry.name] = _entry

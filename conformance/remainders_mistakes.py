@@ -43,7 +43,8 @@ DIVISIONS = {
 
 def passes(file, row):
     """Whether no row of the refusal table before this one holds."""
-    return len(file) >= 13 and not any(mistakes.row_holds(k, file) for k in range(2, row))
+    before = mistakes.ORDER[1:mistakes.ORDER.index(row)]
+    return len(file) >= 13 and not any(mistakes.row_holds(k, file) for k in before)
 
 
 def over_before(U, n, r, i):
@@ -339,8 +340,10 @@ def refused(name, what, when, new):
 
 
 ROWS = [
-    *of_sheets(*map(mistakes.left_out, range(1, 13))),
-    *of_sheets(*(mistakes.earlier(row, row - 1) for row in range(2, 13) if row != 10)),
+    *of_sheets(*map(mistakes.left_out, mistakes.ORDER[:-1])),
+    *of_sheets(*mistakes.one_before()),
+    *of_sheets(mistakes.earlier(16, 7), mistakes.earlier(11, 16), mistakes.earlier(12, 16), mistakes.tested_last(16)),
+    *of_sheets(*mistakes.VERSION_2),
     *(wrong(f"row-13-{cells}-cells", f"row 13 judged with {cells} cells",
             (OUTCOME, OUTCOME.replace("LENT_CELLS", str(cells)))) for cells in (0, 1, 3)),
     none_first("state", "by a state that no file has", "not 1 <= state <= 64"),
@@ -351,6 +354,9 @@ ROWS = [
     none_first("state-by-M", "from 5 on by the state", "passes(file, 5) and not 1 <= state <= file[3]"),
     none_first("r-by-R", "from 6 on by r", "passes(file, 6) and not 1 <= r <= file[4]"),
     none_first("n-by-12", "by n before 12", "passes(file, 12) and not 1 <= n <= LEVEL_LIMIT"),
+    none_first("n-by-16", "by n before 16", "passes(file, 16) and not 1 <= n <= LEVEL_LIMIT"),
+    none_first("version-2", "for every file of version 2", "passes(file, 4) and file[2] == 2"),
+    refused("16-none", "none in the place of 16", "N == 16", NONE),
     refused("none", "none in the place of every refusal", "True", NONE),
     refused("12-none", "none in the place of 12", "N == 12", NONE),
     refused("13", "13 in the place of every refusal", "True", 'return ("refused", 13)'),
