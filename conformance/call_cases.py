@@ -926,6 +926,8 @@ def move_back_weights(call):
     for row in (8, 16, 9, 10, 11, 12):
         yield move(call, f"refused-{row:02d}-before-17-quarter", alone(row, B_START), 40)
     yield move(call, "refused-17-on-second-of-2", weighted(B, [0, 1_000_000]), 40)
+    yield move(call, "refused-12-before-17-and-13", own_time(B_START, 257), 28)
+    yield move(call, "refused-12-before-17-and-13-no-bytes", own_time(B_START, 257), 0)
     yield move(call, "refused-17-quarter", B_START, 40)
     yield move(call, "refused-17-quarter-no-bytes", B_START, 0)
     one_on_8 = [999_999, 0, 0, 0, 0, 0, 0, 1, 0, 0, 0]

@@ -8,6 +8,9 @@ answers something else, leaves another number in an element of a slice, or is st
 when two stored calls or more catch each, 1 when not, 2 when the run is not possible.
 """
 
+import contextlib
+import functools
+import io
 import os
 import sys
 
@@ -42,13 +45,22 @@ def caught(program, each):
         raise ValueError(f"{program.__name__}: its text is wrong, not its numbers: {error}") from error
 
 
+@functools.lru_cache(maxsize=None)
+def kits():
+    """The stored calls by the call, the cheapest first."""
+    stored = sorted(run_calls.stored(), key=cost)
+    return {call: [each for each in stored if each.call == call] for call in TABLE}
+
+
 def catches(entry, kit, enough=ENOUGH):
     """The names of the stored calls that catch the entry, up to `enough`."""
     program = mutants.module(entry, call_mistakes.HELPERS)
     found = []
     for each in kit:
-        if len(found) < enough and caught(program, each):
+        if caught(program, each):
             found.append(each.name)
+            if len(found) == enough:
+                break
     return found
 
 
@@ -68,23 +80,37 @@ def judge_equivalent(call, entry, kit):
     return not found
 
 
+def judge_right(call, entry, kit):
+    """Whether no stored call catches the reference; prints a line where one does."""
+    right = not catches(entry, kit, 1)
+    if not right:
+        print(f"{call}: a stored call catches the reference itself")
+    return right
+
+
+def judged(job):
+    """What a judge prints of a call's entry, and what it returns; run by a worker."""
+    judge_entry, call, entry = job
+    with contextlib.redirect_stdout(io.StringIO()) as said:
+        good = judge_entry(call, entry, kits()[call])
+    return said.getvalue(), good
+
+
 def main(arguments):
     if arguments:
         print("call_mutants.py: takes no argument", file=sys.stderr)
         return 2
-    stored = sorted(run_calls.stored(), key=cost)
-    kits = {call: [each for each in stored if each.call == call] for call in TABLE}
+    jobs = [(judge_right, call, RIGHT) for call in TABLE]
+    jobs += [(judge, call, entry) for call, table in TABLE.items() for entry in table.values()]
+    jobs += [(judge_equivalent, call, entry) for call, entries in LEFT_OUT.items() for entry in entries]
+    kits()                             # read once, for every worker
     try:
-        bad = [call for call, kit in kits.items() if catches(RIGHT, kit)]
-        for call in bad:
-            print(f"{call}: a stored call catches the reference itself")
-        wrong = [entry.name for call, table in TABLE.items() for entry in table.values()
-                 if not judge(call, entry, kits[call])]
-        same = [entry.name for call, entries in LEFT_OUT.items() for entry in entries
-                if not judge_equivalent(call, entry, kits[call])]
+        failed = [job for job, good in zip(jobs, mutants.verdicts(jobs, judged)) if not good]
     except ValueError as error:        # a text of call_mistakes.py that is wrong
         print(f"call_mutants.py: {error}", file=sys.stderr)
         return 2
+    bad, wrong, same = ([f"{call} {entry.name}" for judge_entry, call, entry in failed if judge_entry is each]
+                        for each in (judge_right, judge, judge_equivalent))
     total, left_out = (sum(map(len, table.values())) for table in (TABLE, LEFT_OUT))
     if wrong:
         print(f"{len(wrong)} of {total} wrong calls are caught by fewer than two stored calls: {', '.join(wrong)}")

@@ -176,10 +176,10 @@ def judged(job):
     return said.getvalue(), good
 
 
-def verdicts(jobs):
+def verdicts(jobs, work=judged):
     """What the judges return, job by job; what they print is printed in the same order."""
     with multiprocessing.Pool(WORKERS) as pool:
-        for said, good in pool.imap(judged, jobs):
+        for said, good in pool.imap(work, jobs):
             print(said, end="", flush=True)
             yield good
 

@@ -23,7 +23,7 @@ LARGE = 1000                 # bytes; a model of fewer has at most 15 states
 TIME_LIMIT = 20              # seconds for one model
 LARGE_TIME_LIMIT = 300       # seconds for a large one
 NO_END = "no end within"
-OUTPUT_LIMIT = 1_000_000     # bytes; the longest sheet has 513 lines and about 10,000 bytes
+OUTPUT_LIMIT = 1_000_000     # bytes; the longest sheet has 521 lines and about 10,500 bytes
 LINE_SHOWN = 60              # characters of a line in a message; no line of a sheet is longer
 PAUSE = 0.005                # seconds between pieces where the system does not tell what was taken
 

@@ -1,5 +1,5 @@
 #!/usr/bin/env python3
-"""Tests of the runner and of the stored calls' names: python3 conformance/test_runner.py"""
+"""Tests of the runner, of the stored calls' names and of the start lines: python3 conformance/test_runner.py"""
 
 import os
 import shutil
@@ -15,13 +15,15 @@ HERE = os.path.dirname(os.path.abspath(__file__))
 ROOT = os.path.dirname(HERE)
 sys.path.insert(0, HERE)
 
+import run  # noqa: E402
 import runner  # noqa: E402
 import run_calls  # noqa: E402
 import call_cases  # noqa: E402
 import cases  # noqa: E402
 import inputs  # noqa: E402
+import library  # noqa: E402
 
-FILE = bytes(k % 251 for k in range(16_397))
+FILE = bytes(k % 251 for k in range(16_653))
 
 
 def python(text):
@@ -37,14 +39,14 @@ COPY = python("import sys; sys.stdout.buffer.write(sys.stdin.buffer.read())")
 class Feeding(unittest.TestCase):
 
     def test_pieces_are_the_file(self):
-        for size in (0, 1, 2, 7, 8, 13, 17, 29, 4_095, 4_096, 16_397, 20_000):
+        for size in (0, 1, 2, 7, 8, 13, 17, 29, 4_095, 4_096, 16_397, 16_653, 20_000):
             file = bytes(size)
             self.assertEqual(b"".join(runner.pieces(file)), file)
             self.assertTrue(size < 2 or len(runner.pieces(file)) > 1, size)
             self.assertLess(max(map(len, runner.pieces(file))), 4_100)
 
     def test_a_read_gets_one_piece(self):
-        for size in (1, 13, 29, 4_200, 16_397):
+        for size in (1, 13, 29, 4_200, 16_653):
             sizes = [len(piece) for piece in runner.pieces(FILE[:size])]
             self.assertEqual(runner.run(SIZES, FILE[:size]), ("".join(f"{k}\n" for k in sizes).encode(), ""))
 
@@ -83,7 +85,7 @@ class Ends(unittest.TestCase):
 
     def test_time_limit(self):
         with mock.patch.multiple(runner, TIME_LIMIT=0.3, LARGE_TIME_LIMIT=0.6):
-            for size, limit in ((0, 0.3), (999, 0.3), (1000, 0.6), (16_397, 0.6)):
+            for size, limit in ((0, 0.3), (999, 0.3), (1000, 0.6), (16_653, 0.6)):
                 self.assertEqual(runner.run(["sleep", "60"], FILE[:size]), (b"", f"no end within {limit} seconds"))
 
     def test_output_without_end(self):
@@ -147,7 +149,7 @@ class Programs(unittest.TestCase):
     def test_run(self):
         result = self.run_program("run.py", "printf", r"refused 3\r\n")
         self.assertEqual((result.returncode, result.stderr), (1, ""))
-        self.assertIn("hand-A-version-2.model: line 1, column 10: expected end of line, got carriage return (CRLF) "
+        self.assertIn("hand-A-version-3.model: line 1, column 10: expected end of line, got carriage return (CRLF) "
                       '(expected "refused 3", got "refused 3\\r")\n', result.stdout)
         tried = [line.split(".model: ")[0] for line in result.stdout.splitlines()[:-1]]
         self.assertEqual(tried, sorted(tried, key=lambda name: (not name.startswith("hand-"), name)))
@@ -230,11 +232,53 @@ class StoredCalls(unittest.TestCase):
         for each in (call_cases.calculate("level-1", call_cases.A, 1), call_cases.series("1-time", call_cases.B, [1])):
             self.assertEqual(call_cases.case(each).answer, 1)
 
-    def test_every_end_of_remainders_is_stored(self):
-        stored = [each for each in run_calls.stored() if each.call == "remainders"]
-        counts = inputs.tally("remainders", [end for each in stored for end in inputs.reached(
-            "remainders", each.given, cases.expected(each))])
-        self.assertEqual([end for end, count in counts.items() if not count], [])
+    def test_every_row_and_end_is_stored(self):
+        for call in library.CALLS:
+            stored = [each for each in run_calls.stored() if each.call == call]
+            counts = inputs.tally(call, [end for each in stored for end in inputs.reached(
+                call, each.given, cases.expected(each))])
+            self.assertEqual([end for end, count in counts.items() if not count], [], call)
+
+    def test_there_and_back(self):
+        """What one call of the converter gives for a name, the other gets for it, and gives what the first got."""
+        there, back = ({each.name: each for each in run_calls.stored() if each.call == call
+                        and each.name.startswith("there-and-back-")} for call in ("to_version_2", "to_version_1"))
+        self.assertEqual(there.keys(), back.keys())
+        self.assertGreater(len(there), 15)
+        for name, each in there.items():
+            for first, second in ((each, back[name]), (back[name], each)):
+                self.assertEqual((bytes(first.written["out"]), first.answer), (second.given["file"],
+                                                                               len(second.given["file"])), name)
+
+    def test_versions(self):
+        """Of each call that reads either version, files of both are accepted; of the converter those of one."""
+        for call, versions in inputs.VERSIONS.items():
+            accepted = {each.given["file"][2] for each in run_calls.stored()
+                        if each.call == call and each.answer < 1_000_000}
+            self.assertEqual(accepted, set(versions), call)
+
+
+class StoredSheets(unittest.TestCase):
+    """The start lines of version 2, held against the others by hand: weight times figure, over a million."""
+
+    def test_start_lines(self):
+        seen = 0
+        for name in run.names():
+            file, sheet = run.stored(name + ".model"), run.stored(name + ".sheet").decode("ascii").splitlines()
+            starts = [line.split() for line in sheet if line.startswith("start ")]
+            if not sheet[0].startswith("level ") or file[2] != 2:
+                self.assertEqual(starts, [], name)
+                continue
+            M, R = file[3], file[4]
+            weights = [int.from_bytes(file[13 + 4 * k:17 + 4 * k], "big") for k in range(M)]
+            ticks = [int(line.split()[2].replace(".", "")) for line in sheet[1:]]
+            self.assertEqual((sum(weights), len(ticks)), (10**6, (M + 1) * R), name)
+            self.assertEqual([line.split()[:2] for line in sheet[-R:]], [["start", f"{r + 1}"] for r in range(R)], name)
+            for r in range(R):
+                exact = sum(weight * ticks[k * R + r] for k, weight in enumerate(weights))
+                self.assertTrue(0 <= exact - 10**6 * ticks[M * R + r] < 10**6, name)
+            seen += 1
+        self.assertGreater(seen, 80)
 
 
 if __name__ == "__main__":

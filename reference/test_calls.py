@@ -366,7 +366,7 @@ class Kit(unittest.TestCase):
         for name in os.listdir(run_calls.CALLS):
             with open(os.path.join(run_calls.CALLS, name), encoding="ascii", newline="") as source:
                 content = source.read()
-            self.assertRegex(content, r"\A(name [a-z0-9AB-]+\n([a-z_]+( [0-9A-F]+)*\n|call [a-z]+\n)+\n?)+\Z", name)
+            self.assertRegex(content, r"\A(name [a-z0-9AB-]+\n([a-z_]+( [0-9A-F]+)*\n|call [a-z0-9_]+\n)+\n?)+\Z", name)
             self.assertFalse(content.endswith("\n\n"), name)
             self.assertEqual(cases.text(cases.read(content)), content, name)
 
