@@ -13,26 +13,35 @@ sys.path.insert(0, os.path.join(os.path.dirname(os.path.abspath(__file__)), ".."
 import models  # noqa: E402
 
 ROW_SUM = 4_000_000  # E: the first row sums to it, and no other to more
+ALL_WEIGHT = 1_000_000  # starting weights sum to it
 
 
-def build(highest, tolerance, jumps, rewards, rates):
-    """A file with q = jumps: E × T is jumps × 10^6."""
+def build(highest, tolerance, jumps, rewards, rates, weights=()):
+    """A file with q = jumps: E × T is jumps × 10^6. With starting weights it is of version 2."""
     time, rest = divmod(jumps * 1_000_000, ROW_SUM)
     assert rest == 0 and max(map(sum, rates)) == ROW_SUM
-    return models.build(1, len(rewards), highest, tolerance, time, rewards, rates)
+    return models.build(version=2 if weights else 1, M=len(rewards), R=highest, eps=tolerance, T=time,
+                        weights=weights, rewards=rewards, rates=rates)
 
 
 def random_rewards(rng, states):
     return [rng.randint(0, 1_000_000) for _ in range(states)]
 
 
-def dense(seed, states, highest, tolerance, jumps):
+def random_weights(seed, states):
+    """A starting distribution: ALL_WEIGHT cut at random places."""
+    rng = random.Random(seed)
+    cuts = [0, *sorted(rng.randint(0, ALL_WEIGHT) for _ in range(states - 1)), ALL_WEIGHT]
+    return [after - before for before, after in zip(cuts, cuts[1:])]
+
+
+def dense(seed, states, highest, tolerance, jumps, weights=()):
     """Every state goes to every other."""
     rng = random.Random(seed)
     rewards = random_rewards(rng, states)
     rates = [[rng.randint(1, ROW_SUM // states) for _ in range(states - 1)] for _ in range(states)]
     rates[0][0] += ROW_SUM - sum(rates[0])
-    return build(highest, tolerance, jumps, rewards, rates)
+    return build(highest, tolerance, jumps, rewards, rates, weights)
 
 
 def birth_death(seed, states, highest, tolerance, jumps):
@@ -50,6 +59,7 @@ def birth_death(seed, states, highest, tolerance, jumps):
 
 FILES = {
     "heaviest": dense(1, 64, 8, 1, 256),
+    "heaviest-start": dense(1, 64, 8, 1, 256, random_weights(8, 64)),  # the same chain
     "sparse": birth_death(2, 64, 8, 1, 256),
     "middle": dense(3, 8, 2, 10_000, 20),
     # for growth: M alone changes

@@ -1,6 +1,6 @@
 // The proved code's algorithm in Rust, function by function, a module for each crate: definitions, reader, refusals,
-// poisson, vectors, means and moments. The helper is the `muldiv` beside it: crates/muldiv's (muldiv.rs), or one in u128
-// (wide.rs).
+// poisson, vectors, means, start and moments. The helper is the `muldiv` beside it: crates/muldiv's (muldiv.rs), or one in
+// u128 (wide.rs).
 //
 // For the measurement alone: what each function is, the crates say. What differs from the Rattle source is only what
 // Rust's syntax asks for: the same arrays by value and lent, the same loops.
@@ -35,6 +35,7 @@ mod definitions {
     pub struct Sizes {
         pub states: usize,
         pub highest: usize,
+        pub block: usize,
         pub rate: u64,
         pub largest: u64,
     }
@@ -49,15 +50,7 @@ mod reader {
     const HIGHEST_AT: usize = 4;
     const TOLERANCE_AT: usize = 5;
     const TIME_AT: usize = 9;
-    const REWARDS_AT: usize = 13;
-
-    fn reward_at(i: usize) -> usize {
-        REWARDS_AT + 4 * i
-    }
-
-    fn row_at(states: usize, i: usize) -> usize {
-        REWARDS_AT + 4 * states + 4 * (states - 1) * i
-    }
+    const WEIGHTS_AT: usize = 13;
 
     fn byte(file: &[u8], at: usize) -> u64 {
         file[at] as u64
@@ -95,13 +88,48 @@ mod reader {
         be(file, TIME_AT, 4) as u32
     }
 
-    pub fn rewards_of(file: &[u8]) -> [u64; 64] {
-        let states = state_count(file);
-        let mut rewards = [0u64; 64];
-        for i in 0..states {
-            rewards[i] = be(file, reward_at(i), 4);
+    pub fn distributions(file: &[u8]) -> usize {
+        if version(file) == 2 {
+            1
+        } else {
+            0
         }
-        rewards
+    }
+
+    pub fn block_size(file: &[u8]) -> usize {
+        let rows = state_count(file) + distributions(file);
+        rows * highest_moment(file)
+    }
+
+    fn rewards_at(file: &[u8]) -> usize {
+        let weights = distributions(file) * state_count(file);
+        WEIGHTS_AT + 4 * weights
+    }
+
+    fn numbers_at(file: &[u8], at: usize) -> [u64; 64] {
+        let states = state_count(file);
+        let mut numbers = [0u64; 64];
+        for i in 0..states {
+            numbers[i] = be(file, at + 4 * i, 4);
+        }
+        numbers
+    }
+
+    pub fn weights_of(file: &[u8]) -> [u64; 64] {
+        numbers_at(file, WEIGHTS_AT)
+    }
+
+    pub fn weight_sum(file: &[u8]) -> u64 {
+        let states = state_count(file);
+        let mut total: u64 = 0;
+        for i in 0..states {
+            total += be(file, WEIGHTS_AT + 4 * i, 4);
+        }
+        total
+    }
+
+    pub fn rewards_of(file: &[u8]) -> [u64; 64] {
+        numbers_at(file, rewards_at(file))
     }
 
     fn larger(a: u64, b: u64) -> u64 {
@@ -126,8 +154,9 @@ mod reader {
         largest_of(&rewards, states)
     }
 
-    pub fn row_of(file: &[u8], i: usize) -> &[u8] {
-        let at = row_at(state_count(file), i);
+    fn row_of(file: &[u8], i: usize) -> &[u8] {
+        let states = state_count(file);
+        let at = rewards_at(file) + 4 * states + 4 * (states - 1) * i;
         &file[at..]
     }
 
@@ -167,9 +196,10 @@ mod reader {
     pub fn sizes_of(file: &[u8], sums: &[u64; 64]) -> Sizes {
         let states = state_count(file);
         let highest = highest_moment(file);
+        let block = block_size(file);
         let rate = uniform_rate(file, sums);
         let largest = max_reward(file);
-        Sizes { states, highest, rate, largest }
+        Sizes { states, highest, block, rate, largest }
     }
 
     pub fn jump_millionths(rate: u64, time: u32) -> u64 {
@@ -197,6 +227,7 @@ mod refusals {
     use super::reader;
 
     const HEADER: usize = 13;
+    const ALL_WEIGHT: u64 = 1_000_000;
     const MOST_STATES: u64 = 64;
     const MOST_MOMENTS: u64 = 8;
     const MOST_TOLERANCE: u64 = 100_000_000;
@@ -208,7 +239,17 @@ mod refusals {
         x == 0 || x > most
     }
 
-    fn judge_framing(file: &[u8]) -> Judgement {
+    fn beyond(low: u64, high: u64, x: u64) -> bool {
+        x < low || x > high
+    }
+
+    fn fitting_length(file: &[u8]) -> u64 {
+        let states = reader::state_count(file) as u64;
+        let weights = reader::distributions(file) as u64 * states;
+        4 * states * states + 4 * weights + 11
+    }
+
+    fn judge_framing(file: &[u8], low: u64, high: u64) -> Judgement {
         if file.len() < HEADER {
             return Judgement::Refused(1);
         }
@@ -216,17 +257,16 @@ mod refusals {
         if length != (file.len() - 2) as u64 {
             return Judgement::Refused(2);
         }
-        if reader::version(file) != 1 {
+        if beyond(low, high, reader::version(file)) {
             return Judgement::Refused(3);
         }
-        let states = reader::state_count(file) as u64;
-        if outside(states, MOST_STATES) {
+        if outside(reader::state_count(file) as u64, MOST_STATES) {
             return Judgement::Refused(4);
         }
         if outside(reader::highest_moment(file) as u64, MOST_MOMENTS) {
             return Judgement::Refused(5);
         }
-        if length != 4 * states * states + 11 {
+        if length != fitting_length(file) {
             return Judgement::Refused(6);
         }
         Judgement::Accepted
@@ -244,15 +284,29 @@ mod refusals {
         times[0] == 0
     }
 
+    fn without_time(file: &[u8], times: &[u32]) -> bool {
+        if reader::time(file) == 0 {
+            return true;
+        }
+        starts_at_zero(times)
+    }
+
+    fn misweighted(file: &[u8]) -> bool {
+        if reader::distributions(file) == 0 {
+            return false;
+        }
+        reader::weight_sum(file) != ALL_WEIGHT
+    }
+
     fn judge_quantities(file: &[u8], times: &[u32]) -> Rated {
         if outside(reader::tolerance(file), MOST_TOLERANCE) {
             return Rated::Refused(7);
         }
-        if reader::time(file) == 0 {
+        if without_time(file, times) {
             return Rated::Refused(8);
         }
-        if starts_at_zero(times) {
-            return Rated::Refused(8);
+        if misweighted(file) {
+            return Rated::Refused(16);
         }
         let most = reader::max_reward(file);
         if most > MOST_REWARD {
@@ -269,27 +323,23 @@ mod refusals {
         Rated::Rate(rate)
     }
 
-    pub fn judge_model(file: &[u8], times: &[u32]) -> Rated {
-        let framing = judge_framing(file);
+    pub fn judge_model(file: &[u8], low: u64, high: u64, times: &[u32]) -> Rated {
+        let framing = judge_framing(file, low, high);
         match framing {
             Judgement::Refused(k) => Rated::Refused(k),
             Judgement::Accepted => judge_quantities(file, times),
         }
     }
 
-    pub fn too_many_jumps(rate: u64, time: u32) -> bool {
-        reader::jump_millionths(rate, time) > MOST_JUMPS
-    }
-
     fn judge_jumps(rate: u64, time: u32) -> Judgement {
-        if too_many_jumps(rate, time) {
+        if reader::jump_millionths(rate, time) > MOST_JUMPS {
             return Judgement::Refused(12);
         }
         Judgement::Accepted
     }
 
-    pub fn judge_file(file: &[u8]) -> Judgement {
-        let model = judge_model(file, &[]);
+    pub fn judge_file(file: &[u8], low: u64, high: u64) -> Judgement {
+        let model = judge_model(file, low, high, &[]);
         match model {
             Rated::Refused(k) => Judgement::Refused(k),
             Rated::Rate(rate) => judge_jumps(rate, reader::time(file)),
@@ -297,15 +347,14 @@ mod refusals {
     }
 
     fn judge_room(file: &[u8], blocks: usize, cells: usize) -> Judgement {
-        let block = reader::state_count(file) * reader::highest_moment(file);
-        if cells < blocks * block {
+        if cells < blocks * reader::block_size(file) {
             return Judgement::Refused(13);
         }
         Judgement::Accepted
     }
 
     pub fn judge(file: &[u8], cells: usize) -> Judgement {
-        let alone = judge_file(file);
+        let alone = judge_file(file, 1, 2);
         match alone {
             Judgement::Refused(k) => Judgement::Refused(k),
             Judgement::Accepted => judge_room(file, 1, cells),
@@ -329,8 +378,9 @@ mod refusals {
         if falls(times) {
             return Judgement::Refused(15);
         }
-        if too_many_jumps(rate, times[count - 1]) {
-            return Judgement::Refused(12);
+        let jumps = judge_jumps(rate, times[count - 1]);
+        if let Judgement::Refused(k) = jumps {
+            return Judgement::Refused(k);
         }
         let room = judge_room(file, count, cells);
         if let Judgement::Refused(k) = room {
@@ -343,7 +393,7 @@ mod refusals {
     }
 
     pub fn judge_series(file: &[u8], times: &[u32], levels: usize, cells: usize) -> Judgement {
-        let model = judge_model(file, times);
+        let model = judge_model(file, 1, 2, times);
         match model {
             Rated::Refused(row) => Judgement::Refused(row),
             Rated::Rate(rate) => judge_times(file, rate, times, levels, cells),
@@ -485,8 +535,8 @@ mod vectors {
         let states = sizes.states;
         let mut next = [0u64; 64];
         for i in 0..states {
-            let w = reward_share(rewards[i], same[i], sizes.largest);
-            next[i] = w.quotient;
+            let share = reward_share(rewards[i], same[i], sizes.largest);
+            next[i] = share.quotient;
         }
         next
     }
@@ -563,7 +613,7 @@ mod means {
         table: &[[u64; 64]; 9],
         cells: &mut [u64],
     ) {
-        let block = sizes.states * sizes.highest;
+        let block = sizes.block;
         let count = levels.len();
         for k in 0..count {
             let row = &weights[k * poisson::LEVELS..];
@@ -583,7 +633,7 @@ mod means {
         let zeros = [0u64; 64];
         let mut table = [zeros; 9];
         vectors::first_table(sizes, rewards, &mut table);
-        clear(levels.len() * (sizes.states * sizes.highest), cells);
+        clear(levels.len() * sizes.block, cells);
         add_to_blocks(sizes, 0, levels, weights, &table, cells);
         let mut n: u64 = 0;
         while n < largest {
@@ -656,13 +706,39 @@ mod means {
         let mut totals = [0u64; MOST_TIMES];
         let largest = truncate_each(xs, tolerance, levels, &mut totals, weights);
         accumulate(sizes, chain, rewards, &levels[..count], largest, weights, cells);
-        divide_blocks(&totals[..count], sizes.states * sizes.highest, cells);
+        divide_blocks(&totals[..count], sizes.block, cells);
+    }
+}
+
+mod start {
+    const MILLION: u64 = 1_000_000;
+
+    fn figure(weights: &[u64; 64], states: usize, highest: usize, r: usize, block: &[u64]) -> u64 {
+        let mut total = 0;
+        for i in 0..states {
+            total += weights[i] * block[i * highest + r];
+        }
+        total / MILLION
+    }
+
+    fn put_figures(weights: &[u64; 64], states: usize, highest: usize, block: &mut [u64]) {
+        let moments = states * highest;
+        for r in 0..highest {
+            block[moments + r] = figure(weights, states, highest, r, block);
+        }
+    }
+
+    pub fn put_in_blocks(weights: &[u64; 64], states: usize, highest: usize, count: usize, cells: &mut [u64]) {
+        let block = (states + 1) * highest;
+        for k in 0..count {
+            put_figures(weights, states, highest, &mut cells[k * block..]);
+        }
     }
 }
 
 mod moments {
-    use super::definitions::{Judgement, Outcome, Series, MOST_TIMES};
-    use super::{means, poisson, reader, refusals};
+    use super::definitions::{Judgement, Outcome, Series, Sizes, MOST_TIMES};
+    use super::{means, poisson, reader, refusals, start};
 
     const FEW_STATES: usize = 16;
 
@@ -671,6 +747,14 @@ mod moments {
         for k in 0..count {
             xs[k] = reader::jump_millionths(rate, times[k]);
         }
+    }
+
+    fn put_starts(file: &[u8], sizes: Sizes, count: usize, cells: &mut [u64]) {
+        if reader::distributions(file) == 0 {
+            return;
+        }
+        let weights = reader::weights_of(file);
+        start::put_in_blocks(&weights, sizes.states, sizes.highest, count, cells);
     }
 
     fn fill_with(
@@ -690,6 +774,7 @@ mod moments {
         let count = times.len();
         let tolerance = reader::tolerance(file);
         means::solve(sizes, chain, &rewards, &xs[..count], tolerance, weights, levels, cells);
+        put_starts(file, sizes, count, cells);
     }
 
     fn fill(file: &[u8], times: &[u32], weights: &mut [u64], levels: &mut [u64], cells: &mut [u64]) {

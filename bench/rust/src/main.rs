@@ -22,6 +22,9 @@ mod series;
 mod single;
 mod timing;
 
+/// Cells for every file at one time: 64 states and the start, 8 figures each.
+const CELLS: usize = 520;
+
 /// The helper as crates/muldiv has it.
 mod same {
     mod muldiv {

@@ -1,15 +1,12 @@
 //! Times one call for remainders beside one call for the moments: those of U(n,r) at the last state, with the level for n
 //! and the highest moment for r, which needs the vectors of every n.
 
-use crate::timing::{self, Spread};
-use crate::{independent, library};
+use crate::timing::{self, Spread, Timed};
+use crate::{independent, library, CELLS};
 use std::hint::black_box;
 use std::path::Path;
 
 type Remainders = fn(&[u8], [u64; 3], &mut u64, &mut u64, &mut u64) -> Result<u64, u8>;
-
-/// Cells for every file.
-const CELLS: usize = 512;
 
 #[derive(Clone, Copy)]
 enum Line {
@@ -27,28 +24,22 @@ const LIBRARY: usize = 0;
 const PLAIN: usize = 1;
 const MOMENTS: usize = 2;
 
-/// A model file, the state, n and r, what is left at them, and the microseconds a call of each line, turn by turn.
+/// A model file, the state, n and r, and what is left at them.
 struct Case {
     name: String,
     file: Vec<u8>,
     asked: [u64; 3],
     expected: [u64; 3],
-    calls: [u32; LINES.len()],
-    times: [Vec<f64>; LINES.len()],
 }
 
 impl Case {
-    /// The file with the count of calls in a turn of each line.
     fn read(path: &Path) -> Case {
         let name = path.file_stem().expect("a file's name").to_string_lossy().into_owned();
         let file = std::fs::read(path).expect("a model file");
         let level = independent::calculate(&file, &mut [0; CELLS]).expect("an accepted file");
         let asked = [file[3].into(), level, file[4].into()];
-        let mut case = Case { name, file, asked, expected: [0; 3], calls: [1; LINES.len()], times: Default::default() };
+        let mut case = Case { name, file, asked, expected: [0; 3] };
         case.expected = case.left(independent::remainders);
-        for line in 0..LINES.len() {
-            case.calls[line] = timing::calls_in_a_turn(|| case.time(line, 1));
-        }
         case
     }
 
@@ -60,8 +51,12 @@ impl Case {
         assert_eq!(answer, Ok(library::GIVEN));
         left
     }
+}
 
-    /// The microseconds a call, of some calls timed as one. The remainders are compared, or the level.
+impl timing::Case for Case {
+    const LINES: usize = LINES.len();
+
+    /// The remainders are compared, or the level.
     fn time(&self, number: usize, calls: u32) -> f64 {
         let (name, line) = LINES[number];
         match line {
@@ -82,21 +77,18 @@ impl Case {
             }
         }
     }
+}
 
-    fn turn(&mut self, line: usize) {
-        let time = self.time(line, self.calls[line]);
-        self.times[line].push(time);
-    }
-
+impl Timed<Case> {
     fn print(&self) {
-        let [state, n, r] = self.asked;
-        println!("\n{}: remainders of U({n},{r}) at state {state}", self.name);
+        let [state, n, r] = self.case.asked;
+        println!("\n{}: remainders of U({n},{r}) at state {state}", self.case.name);
         println!("  line                     median   middle half");
         for (line, (label, _)) in LINES.iter().enumerate() {
-            print_spread(label, Spread::of(self.times[line].iter().copied()));
+            print_spread(label, self.times(line));
         }
-        print_spread("library/moments", Spread::of_ratios(&self.times[LIBRARY], &self.times[MOMENTS]));
-        print_spread("library/plain", Spread::of_ratios(&self.times[LIBRARY], &self.times[PLAIN]));
+        print_spread("library/moments", self.ratios(LIBRARY, MOMENTS));
+        print_spread("library/plain", self.ratios(LIBRARY, PLAIN));
     }
 }
 
@@ -106,16 +98,10 @@ fn print_spread(label: &str, Spread { low, median, high, .. }: Spread) {
 
 /// Times all lines on some files, and prints what they came to.
 pub fn measure(turns: usize, paths: &[String]) {
-    let mut cases: Vec<Case> = paths.iter().map(|path| Case::read(Path::new(path))).collect();
-    for _ in 0..turns {
-        for case in &mut cases {
-            for line in 0..LINES.len() {
-                case.turn(line);
-            }
-        }
-    }
+    let cases = paths.iter().map(|path| Case::read(Path::new(path)));
+    let timed = timing::take_turns(turns, cases, &[LIBRARY, PLAIN, MOMENTS]);
     println!("{turns} turns; times in microseconds a call; a ratio is the median of the ratios turn by turn");
-    for case in &cases {
+    for case in &timed {
         case.print();
     }
 }

@@ -1,7 +1,7 @@
 //! Times one call with a list of times beside single calls: one for each time of the list, and one for its last time.
 
-use crate::timing::{self, Spread};
-use crate::{independent, library, same, wide};
+use crate::timing::{self, Spread, Timed};
+use crate::{independent, library, same, wide, CELLS};
 use std::hint::black_box;
 use std::path::Path;
 
@@ -9,9 +9,6 @@ type Series = fn(&[u8], &[u32], &mut [u64], &mut [u64]) -> Result<u64, u8>;
 
 /// Times in each list.
 const TIMES: usize = 8;
-
-/// Cells for the blocks of every file.
-const CELLS: usize = TIMES * 512;
 
 #[derive(Clone, Copy)]
 enum Line {
@@ -37,16 +34,16 @@ const LAST: usize = 4;
 /// A level and a block of cells for each time of a list.
 struct Filled {
     levels: [u64; TIMES],
-    cells: [u64; CELLS],
+    cells: [u64; TIMES * CELLS],
 }
 
 impl Filled {
     fn zeros() -> Filled {
-        Filled { levels: [0; TIMES], cells: [0; CELLS] }
+        Filled { levels: [0; TIMES], cells: [0; TIMES * CELLS] }
     }
 }
 
-/// A model file with a list, what every line has to fill, and the microseconds a call of each line, turn by turn.
+/// A model file with a list, and what every line has to fill.
 struct Case {
     name: String,
     file: Vec<u8>,
@@ -54,23 +51,16 @@ struct Case {
     /// The file with each time of the list in the place of its own.
     singles: [Vec<u8>; TIMES],
     expected: Filled,
-    calls: [u32; LINES.len()],
-    times: [Vec<f64>; LINES.len()],
 }
 
 impl Case {
-    /// The file and the list with the count of calls in a turn of each line.
     fn read(path: &Path, list: &str) -> Case {
         let name = path.file_stem().expect("a file's name").to_string_lossy().into_owned();
         let file = std::fs::read(path).expect("a model file");
         let list = times_of(list);
         let singles = list.map(|time| with_time(&file, time));
-        let expected = Filled::zeros();
-        let mut case = Case { name, file, list, singles, expected, calls: [1; LINES.len()], times: Default::default() };
+        let mut case = Case { name, file, list, singles, expected: Filled::zeros() };
         case.expected = case.expect();
-        for line in 0..LINES.len() {
-            case.calls[line] = timing::calls_in_a_turn(|| case.time(line, 1));
-        }
         case
     }
 
@@ -105,15 +95,6 @@ impl Case {
         }
     }
 
-    /// The microseconds a call, of some calls timed as one; 8 single calls count as one. The levels and the cells that they
-    /// leave are compared.
-    fn time(&self, line: usize, calls: u32) -> f64 {
-        let mut filled = Filled::zeros();
-        let spent = timing::microseconds(calls, || self.run(line, &mut filled));
-        self.compare(line, &filled);
-        spent
-    }
-
     fn compare(&self, number: usize, filled: &Filled) {
         let (name, line) = LINES[number];
         let first = match line {
@@ -125,11 +106,6 @@ impl Case {
         assert!(filled.cells[cell..] == self.expected.cells[cell..], "{name}: cells");
     }
 
-    fn turn(&mut self, line: usize) {
-        let time = self.time(line, self.calls[line]);
-        self.times[line].push(time);
-    }
-
     fn states(&self) -> usize {
         self.file[3].into()
     }
@@ -138,29 +114,43 @@ impl Case {
         self.file[4].into()
     }
 
-    /// M × R, the cells of one time.
+    /// The cells of one time: R for each state, and in version 2 R for the start.
     fn block(&self) -> usize {
-        self.states() * self.highest()
+        let starts = usize::from(self.file[2] == 2);
+        (self.states() + starts) * self.highest()
     }
+}
 
+impl timing::Case for Case {
+    const LINES: usize = LINES.len();
+
+    /// 8 single calls count as one. The levels and the cells are compared.
+    fn time(&self, line: usize, calls: u32) -> f64 {
+        let mut filled = Filled::zeros();
+        let spent = timing::microseconds(calls, || self.run(line, &mut filled));
+        self.compare(line, &filled);
+        spent
+    }
+}
+
+impl Timed<Case> {
     fn print(&self) {
-        println!("\n{}: {} states, R = {}", self.name, self.states(), self.highest());
-        println!("  times {:?}, levels {:?}", self.list, self.expected.levels);
+        let case = &self.case;
+        println!("\n{}: {} states, R = {}", case.name, case.states(), case.highest());
+        println!("  times {:?}, levels {:?}", case.list, case.expected.levels);
         println!("  line                    median   middle half");
         for (line, (label, _)) in LINES.iter().enumerate() {
-            let Spread { low, median, high, .. } = Spread::of(self.times[line].iter().copied());
-            println!("  {label:<18} {median:>11.2}   {low:.2} to {high:.2}");
+            print_spread(label, self.times(line));
         }
-        self.print_ratio("series/last time", SERIES, LAST);
-        self.print_ratio("8 calls/series", SINGLES, SERIES);
-        self.print_ratio("library/same", SERIES, SAME);
-        self.print_ratio("library/wide", SERIES, WIDE);
+        print_spread("series/last time", self.ratios(SERIES, LAST));
+        print_spread("8 calls/series", self.ratios(SINGLES, SERIES));
+        print_spread("library/same", self.ratios(SERIES, SAME));
+        print_spread("library/wide", self.ratios(SERIES, WIDE));
     }
+}
 
-    fn print_ratio(&self, label: &str, line: usize, other: usize) {
-        let Spread { low, median, high, .. } = Spread::of_ratios(&self.times[line], &self.times[other]);
-        println!("  {label:<18} {median:>11.2}   {low:.2} to {high:.2}");
-    }
+fn print_spread(label: &str, Spread { low, median, high, .. }: Spread) {
+    println!("  {label:<18} {median:>11.2}   {low:.2} to {high:.2}");
 }
 
 /// The numbers of a list as 1,2,3,4,5,6,7,8.
@@ -178,16 +168,10 @@ fn with_time(file: &[u8], time: u32) -> Vec<u8> {
 
 /// Times all lines on some files, each with a list, and prints what they came to.
 pub fn measure(turns: usize, words: &[String]) {
-    let mut cases: Vec<Case> = words.chunks(2).map(|pair| Case::read(Path::new(&pair[0]), &pair[1])).collect();
-    for _ in 0..turns {
-        for case in &mut cases {
-            for line in 0..LINES.len() {
-                case.turn(line);
-            }
-        }
-    }
+    let cases = words.chunks(2).map(|pair| Case::read(Path::new(&pair[0]), &pair[1]));
+    let timed = timing::take_turns(turns, cases, &[SERIES, SAME, WIDE, SINGLES, LAST]);
     println!("{turns} turns; times in microseconds a call, or for all 8; a ratio is the median of the ratios turn by turn");
-    for case in &cases {
+    for case in &timed {
         case.print();
     }
 }

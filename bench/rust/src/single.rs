@@ -1,7 +1,7 @@
 //! Times single calls: of the library and of the versions in Rust.
 
-use crate::timing::{self, Spread};
-use crate::{independent, library, same, wide};
+use crate::timing::{self, Spread, Timed};
+use crate::{independent, library, same, wide, CELLS};
 use std::hint::black_box;
 use std::path::Path;
 
@@ -16,49 +16,21 @@ const LINES: [(&str, Calculation); 4] = [
 ];
 const LIBRARY: usize = 0;
 
-/// Cells for every file.
-const CELLS: usize = 512;
-
-/// A model file, what every line has to answer, and the microseconds a call of each line, turn by turn.
+/// A model file, and what every line has to answer.
 struct Case {
     name: String,
     file: Vec<u8>,
     level: u64,
     cells: [u64; CELLS],
-    calls: [u32; LINES.len()],
-    times: [Vec<f64>; LINES.len()],
 }
 
 impl Case {
-    /// The file with the count of calls in a turn of each of `lines`.
-    fn read(path: &Path, lines: &[usize]) -> Case {
+    fn read(path: &Path) -> Case {
         let name = path.file_stem().expect("a file's name").to_string_lossy().into_owned();
         let file = std::fs::read(path).expect("a model file");
         let mut cells = [0; CELLS];
         let level = independent::calculate(&file, &mut cells).expect("an accepted file");
-        let mut case = Case { name, file, level, cells, calls: [1; LINES.len()], times: Default::default() };
-        for line in lines {
-            case.calls[*line] = timing::calls_in_a_turn(|| case.time(*line, 1));
-        }
-        case
-    }
-
-    /// The microseconds a call, of some calls timed as one. The answer and the cells that they leave are compared.
-    fn time(&self, line: usize, calls: u32) -> f64 {
-        let (name, calculation) = LINES[line];
-        let mut cells = [0; CELLS];
-        let mut answer = Err(0);
-        let spent = timing::microseconds(calls, || {
-            answer = calculation(black_box(&self.file), black_box(&mut cells));
-        });
-        assert_eq!(answer, Ok(self.level), "{name}");
-        assert_eq!(cells, self.cells, "{name}");
-        spent
-    }
-
-    fn turn(&mut self, line: usize) {
-        let time = self.time(line, self.calls[line]);
-        self.times[line].push(time);
+        Case { name, file, level, cells }
     }
 
     fn states(&self) -> u64 {
@@ -73,17 +45,28 @@ impl Case {
     fn products(&self) -> u64 {
         self.states() * self.states() * self.highest() * self.level
     }
+}
 
-    fn times(&self, line: usize) -> Spread {
-        Spread::of(self.times[line].iter().copied())
+impl timing::Case for Case {
+    const LINES: usize = LINES.len();
+
+    /// The answer and the cells are compared.
+    fn time(&self, line: usize, calls: u32) -> f64 {
+        let (name, calculation) = LINES[line];
+        let mut cells = [0; CELLS];
+        let mut answer = Err(0);
+        let spent = timing::microseconds(calls, || {
+            answer = calculation(black_box(&self.file), black_box(&mut cells));
+        });
+        assert_eq!(answer, Ok(self.level), "{name}");
+        assert_eq!(cells, self.cells, "{name}");
+        spent
     }
+}
 
+impl Timed<Case> {
     fn nanoseconds_a_product(&self, line: usize) -> f64 {
-        self.times(line).median * 1e3 / self.products() as f64
-    }
-
-    fn ratios(&self, line: usize, other: usize) -> Spread {
-        Spread::of_ratios(&self.times[line], &self.times[other])
+        self.times(line).median * 1e3 / self.case.products() as f64
     }
 
     fn fastest_in_rust(&self) -> usize {
@@ -93,8 +76,9 @@ impl Case {
 
     fn print(&self) {
         let fastest = self.fastest_in_rust();
-        let (name, states, highest, level) = (&self.name, self.states(), self.highest(), self.level);
-        println!("{name}: {states} states, R = {highest}, level {level}, {} products", self.products());
+        let Case { name, level, .. } = &self.case;
+        let (states, highest, products) = (self.case.states(), self.case.highest(), self.case.products());
+        println!("{name}: {states} states, R = {highest}, level {level}, {products} products");
         println!("  line         median      least   greatest ns/product  library/line  line/fastest   middle half");
         for (line, (label, _)) in LINES.iter().enumerate() {
             let Spread { median, least, greatest, .. } = self.times(line);
@@ -109,8 +93,9 @@ impl Case {
     }
 
     fn print_short(&self) {
-        let (name, states, highest, level) = (&self.name, self.states(), self.highest(), self.level);
-        print!("  {name:<10} {states:>6} {highest:>2} {level:>5}");
+        let Case { name, level, .. } = &self.case;
+        let (states, highest) = (self.case.states(), self.case.highest());
+        print!("  {name:<14} {states:>6} {highest:>2} {level:>5}");
         let fastest = self.fastest_in_rust();
         for line in [LIBRARY, fastest] {
             print!(" {:>11.2} {:>10.3}", self.times(line).median, self.nanoseconds_a_product(line));
@@ -124,25 +109,18 @@ pub fn measure(turns: usize, line: &str, paths: &[String]) {
     let chosen = |number: &usize| line == "all" || line == LINES[*number].0;
     let lines: Vec<usize> = (0..LINES.len()).filter(chosen).collect();
     assert!(!lines.is_empty(), "no line {line}");
-    let mut cases: Vec<Case> = paths.iter().map(|path| Case::read(Path::new(path), &lines)).collect();
-    // The files and the lines take turns, so that a slow spell of the machine meets all of them.
-    for _ in 0..turns {
-        for case in &mut cases {
-            for line in &lines {
-                case.turn(*line);
-            }
-        }
-    }
+    let cases = paths.iter().map(|path| Case::read(Path::new(path)));
+    let timed = timing::take_turns(turns, cases, &lines);
     if lines.len() < LINES.len() {
         return;
     }
     println!("{turns} turns; times in microseconds a call; a ratio is the median of the ratios turn by turn\n");
-    for case in &cases {
+    for case in &timed {
         case.print();
     }
     println!("all files: the medians of the library and of the fastest in Rust");
-    println!("  file       states  R level     library ns/product     fastest ns/product   which library/fastest");
-    for case in &cases {
+    println!("  file           states  R level     library ns/product     fastest ns/product   which library/fastest");
+    for case in &timed {
         case.print_short();
     }
 }
