@@ -7,7 +7,7 @@ use Rattle.definitions.specs.declared.Sizes.{Sizes}
 use Rattle.definitions.specs.Sums.{sum, largest, firsts, over, pick}
 use Rattle.definitions.specs.File.{stateCount, highestMoment, toleranceField, timeField, distributions, weightField, rewardField, rateField}
 
--- M, R, ε in billionths, T in hours, how many starting distributions there are (one or none) and its weights in millionths, f, and the
+-- M, R, ε in billionths, T in hours, how many starting distributions there are (one or none), the starting weights in millionths, f, and the
 -- transition rates between two different states
 pub record Model : Type 0 where
   pub states : ℕ

@@ -95,12 +95,12 @@ blockSize s = blockOf (modelOf s)
 abbrev pub fileRows : ℕ → ℕ → List ℕ → Rows
 fileRows low high s = framing low high s ++ quantities (modelOf s) [] ++ jumps (uniformRate (modelOf s)) (timeField s)
 
--- the table of a call that takes the file s of either version, lent with a number of answer cells, and fills its moments
+-- the table of a call that takes the file s of either version, lent with a number of answer cells, and fills its block
 unfoldable pub rows : List ℕ → ℕ → Rows
 rows s cells = fileRows 1 2 s ++ room (blockSize s) cells
 
 -- the table of a call that takes the file s of either version and a list of times, lent with a number of level cells and of block cells, and fills a level
--- and a block of moments for each time (S-3). Row 13 stands for the blocks, and for the levels.
+-- and a block for each time (S-3). Row 13 stands for the blocks, and for the levels.
 unfoldable pub seriesRows : List ℕ → List ℕ → ℕ → ℕ → Rows
 seriesRows s times levels cells =
     framing 1 2 s
@@ -119,7 +119,7 @@ firstHeld (row ∷ later) a = pick (row .1) (refused (row .0)) (firstHeld later 
 abbrev pub judgedBy : Rows → Answer (Unit {0})
 judgedBy table = firstHeld table tt
 
--- what they say of the file s
+-- what these rows say of the file s, for a call that admits the versions from low to high
 unfoldable pub fileJudgement : ℕ → ℕ → List ℕ → Answer (Unit {0})
 fileJudgement low high s = judgedBy (fileRows low high s)
 

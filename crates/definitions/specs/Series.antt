@@ -1,4 +1,4 @@
--- Document 02, S-3, "One model, several times": the levels and the blocks of moments of a file for a list of times, and demand 3 of them.
+-- Document 02, S-3, "One model, several times": the levels and the blocks of a file for a list of times, and demand 3 of them.
 use Prim.Native.Nat.{ℕ, _*_, _<_}
 use mathlib.Core.List.{List}
 use mathlib.Core.Path.{_≡_}
@@ -30,7 +30,7 @@ unfoldable pub levelsAfter : Answer (Unit {0}) → List ℕ → List ℕ → Lis
 levelsAfter (accepted tt) s times levels = over (length times) (levelAt s times) levels
 levelsAfter (refused k) s times levels = levels
 
--- and all block cells: block k has the moments of time k
+-- and all block cells: block k is that of time k
 unfoldable pub blocksAfter : Answer (Unit {0}) → List ℕ → List ℕ → List ℕ → List ℕ
 blocksAfter (accepted tt) s times cells = blocks (blockSize s) (length times) (λ k. cell (modelAt s times k) (levelAt s times k)) cells
 blocksAfter (refused k) s times cells = cells

@@ -62,8 +62,8 @@ abbrev pub AllStop : List Stop → Type 0
 AllStop [] = Unit {0}
 AllStop (e ∷ rest) = (judgement (e .file) (e .cells) ≡ refused (e .row)) × AllStop rest
 
--- A with byte 2 = 02; startB as version 1 and 3; then its weights one too few, alone, with the time 0, and with a reward above its limit;
--- one cell too few
+-- A with byte 2 = 02; startB as version 1, 3 and 0; its weights one too few: alone, with the time 0, with a reward above its limit, with all
+-- rewards 0; a weight far too large; one cell too few
 abbrev pub stops : List Stop
 stops =
     record { file = set fileA 2 2; cells = lentCells; row = 6 }

@@ -14,13 +14,13 @@ pub enum Judgement {
     Refused(u8),
 }
 
-// What a call that takes a file and fills its moments answers: the truncation level N, or the number of the refusal.
+// What a call that takes a file and fills its block answers: the truncation level N, or the number of the refusal.
 pub enum Outcome {
     Level(u64),
     Refused(u8),
 }
 
-// What a call that takes a file and a list of times answers: accepted, with a level and a block of moments filled for each
+// What a call that takes a file and a list of times answers: accepted, with a level and a block filled for each
 // time, or the number of the refusal.
 pub enum Series {
     Accepted,

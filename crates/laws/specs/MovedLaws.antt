@@ -55,7 +55,7 @@ pub record Carried (s t : List ℕ) (v : ℕ) (w : List ℕ) : Type 0 where
   pub model : modelOf t ≡ withStart (modelOf s) (distributions t) (weightField t)
   -- the weights that it holds are w
   pub weights : (i : ℕ) → i < distributions t * stateCount t → weightField t i ≡ getD w i 0
-  -- rows 1 to 12 pass where they pass for s, version v is admitted, and row 16 passes
+  -- rows 1 to 12 and 16 pass where they pass for s, version v is admitted, and the weights pass row 16
   pub rows : (a b oldest newest : ℕ) → oldest ≤ v → v ≤ newest → misweighted (modelOf t) ≡ false → NoneHold (fileRows a b s) → NoneHold (fileRows oldest newest t)
   pub level : modelLevel (modelOf t) ≡ modelLevel (modelOf s)
   pub moments : (N r i : ℕ) → moment (modelOf t) N r i ≡ moment (modelOf s) N r i

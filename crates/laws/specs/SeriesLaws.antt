@@ -89,7 +89,7 @@ module _ (s : List ℕ) (T : ℕ) (header : 13 ≤ length s) where
   framing-with low high =
       rw (length-with, states-with, highest-with, distributions-with, number-before 2 0 (omega arith), byte-before 2 (omega arith)) refl
 
--- rows 7 to 11 pass without a list, with any time but 0, where they pass with the file's time and a list
+-- rows 7 to 11 and 16 pass without a list, with any time but 0, where they pass with the file's time and a list
 quantities-at : (m : Model) (times : List ℕ) (T : ℕ) → NoneHold (quantities m times) → 1 ≤ T → NoneHold (quantities (atTime m T) [])
 unfolding quantities jumpRate rowSum
 quantities-at m times T row low = (row .0, (rw (ne-eqb T 0 (λ e. omega arith)) refl, row .1 .1))

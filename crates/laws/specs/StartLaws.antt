@@ -1,4 +1,4 @@
--- The start figure: in [0, 1], within one tick more than the moments of the averages weighted so, and with all weight on one state that
+-- The start figure: in [0, 1]; as close to the weighted averages as a moment is to its own, and one tick; with all weight on one state that
 -- state's moment.
 use Prim.Native.Nat.{ℕ, zero, suc, _+_, _*_, _/_, _≤_, _<_}
 use native.Mathlib.Omega.{arith}

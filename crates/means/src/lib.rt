@@ -189,7 +189,7 @@ fn truncate_each(
 }
 
 // The levels of a list of X, and the moments of a chain in arrays for each: level k and block k of the cells are those of X
-// number k. The rows of weights are lent.
+// number k, with 0 in the cells of a block past the moments. The rows of weights are lent.
 pub fn solve(
     sizes: Sizes,
     chain: &[u32],

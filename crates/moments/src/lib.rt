@@ -112,8 +112,9 @@ fn fill_own(file: &[u8], cells: &mut [u64]) -> u64
 
 // The call: the first row of the table of refusals that holds, with no cell touched; or the level N,
 // with moment r of state i, counted from 1, in cell (i - 1) * R + (r - 1), and for a file of version 2
-// the start figure for r in cell M * R + (r - 1). The cells past them are as they were. All figures are
-// within the tolerance and the rounding of the exact averages.
+// the start figure for r in cell M * R + (r - 1). The cells past them are as they were. A moment is
+// within the tolerance and the rounding of its exact average, a start figure within one tick more of the
+// averages weighted so.
 pub fn calculate(file: &[u8], cells: &mut [u64]) -> Outcome
     ensures outcome { λ o. ⌜ answerOf o ≡ outcome (now (file .entry)) (length (now (cells .entry))) ⌝ }
     ensures cells { λ o. ⌜ now (cells .exit) ≡ cellsAfter (answerOf o) (now (file .entry)) (now (cells .entry)) ⌝ }

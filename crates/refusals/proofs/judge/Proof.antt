@@ -1,4 +1,4 @@
--- `refusals::judge` meets its contract: rows 1 to 12, then the room. Assumes nothing.
+-- `refusals::judge` meets its contract: rows 1 to 12 and 16, then the room. Assumes nothing.
 use mathlib.Core.Path.{refl, _∙_, sym, ap}
 use native.Mathlib.Omega.{arith}
 use borrow.Author.Needs.{needs}

@@ -1,4 +1,4 @@
--- `remainders::remainders` meets its contract: rows 1 to 12, then what an accepted file gives. Assumes nothing.
+-- `remainders::remainders` meets its contract: rows 1 to 12 and 16, then what an accepted file gives. Assumes nothing.
 use mathlib.Core.Path.{_≡_, _∙_, sym, ap}
 use borrow.Author.Needs.{needs}
 use Rattle.definitions.specs.Rules.{verdict}
