@@ -92,9 +92,10 @@ pub fn to_version_2(file: &[u8], out: &mut [u8]) -> Written
         return Written::Refused(k);
     }
     if out.len() < file.len() + 4 * reader::state_count(file) {
-        return Written::Refused(13);
+        Written::Refused(13)
+    } else {
+        Written::Count(put_version_2(file, out))
     }
-    Written::Count(put_version_2(file, out))
 }
 
 // The file, which is to be of version 2 with all weight on state 1, in version 1: the count of its bytes, or the

@@ -8,7 +8,7 @@ use lib.ListN.{length, getD}
 use Rattle.definitions.specs.File.{lengthField}
 use Rattle.definitions.specs.Rules.{Answer, accepted, fileJudgement, verdict}
 use Rattle.definitions.specs.Written.{countOf, bytesAfter}
-use Rattle.definitions.specs.Convert.{movedTo2, toVersion2}
+use Rattle.definitions.specs.Convert.{movedTo2}
 use Rattle.laws.specs.WordLaws.{big-below}
 use Rattle.laws.specs.Acceptance.{AcceptedModel, accepted-model}
 use Rattle.laws.specs.ConvertLaws.{refused-there, no-room-there, written-there, answer-there}
@@ -66,7 +66,7 @@ to-version-2-spec =
     (λ c κs. omega (arith, told c .framed .size))
     (λ c. omega (arith, c .state-count .ensures, told (c .before) .framed .states-max))
     (λ c. omega (arith, c .state-count .ensures, told (c .before) .framed .states-max, told (c .before) .counted, short (c .before)))
-    returns-2
     (λ c κs. (passed (c .before .before .before), omega (arith, c .before .if1 .left, c .before .before .state-count .ensures)))
+    returns-2
     (λ c. search needs)
     returns-3)
