@@ -8,36 +8,16 @@ use Rattle.definitions.specs.Chain.{Model, modelOf}
 use Rattle.definitions.specs.Rules.{Answer, accepted, refused, Rows, fileRows, fileJudgement}
 use Rattle.definitions.specs.Weights.{MILLION}
 use Rattle.definitions.specs.Moment.{moment, modelLevel}
-use Rattle.definitions.specs.Fields.{Fields, fieldsOf, fileOf}
+use Rattle.definitions.specs.Fields.{Fields, inVersion, fieldsOf, fileOf}
 use Rattle.definitions.specs.Written.{fileFor}
 
 -- the fields f in version 2, with all weight on state 1
 unfoldable pub inVersion2 : Fields → Fields
-inVersion2 f =
-    record {
-      version = 2;
-      states = f .states;
-      highest = f .highest;
-      tolerance = f .tolerance;
-      time = f .time;
-      weights = MILLION ∷ replicate (f .states - 1) 0;
-      rewards = f .rewards;
-      rates = f .rates;
-    }
+inVersion2 f = inVersion 2 (MILLION ∷ replicate (f .states - 1) 0) f
 
 -- the fields f in version 1, without weights
 unfoldable pub inVersion1 : Fields → Fields
-inVersion1 f =
-    record {
-      version = 1;
-      states = f .states;
-      highest = f .highest;
-      tolerance = f .tolerance;
-      time = f .time;
-      weights = [];
-      rewards = f .rewards;
-      rates = f .rates;
-    }
+inVersion1 f = inVersion 1 [] f
 
 -- the file s, moved
 abbrev pub movedTo2 : List ℕ → List ℕ

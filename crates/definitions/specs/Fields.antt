@@ -17,6 +17,20 @@ pub record Fields : Type 0 where
   pub rewards : List ℕ
   pub rates : List ℕ
 
+-- the fields f in version v, with the weights w
+abbrev pub inVersion : ℕ → List ℕ → Fields → Fields
+inVersion v w f =
+    record {
+      version = v;
+      states = f .states;
+      highest = f .highest;
+      tolerance = f .tolerance;
+      time = f .time;
+      weights = w;
+      rewards = f .rewards;
+      rates = f .rates;
+    }
+
 -- so many numbers of 4 bytes each, from the place at on
 unfoldable pub numbersAt : List ℕ → ℕ → ℕ → List ℕ
 numbersAt s at n = firsts n (λ k. big 4 s (at + 4 * k))

@@ -14,10 +14,11 @@ use Rattle.definitions.specs.File.{lengthField, version, stateCount, distributi
 use Rattle.definitions.specs.Chain.{modelOf}
 use Rattle.definitions.specs.Rules.{Answer, accepted, refused, Rows, misweighted, fileRows, judgedBy, fileJudgement}
 use Rattle.definitions.specs.Weights.{MILLION}
-use Rattle.definitions.specs.Fields.{Fields, numbersAt, wordsOf, fieldsOf, fileOf}
+use Rattle.definitions.specs.Moment.{moment, startFigure}
+use Rattle.definitions.specs.Fields.{Fields, inVersion, numbersAt, wordsOf, fieldsOf, fileOf}
 use Rattle.definitions.specs.Written.{fileFor}
 use Rattle.definitions.specs.Convert.{inVersion2, inVersion1, movedTo2, movedTo1, elsewhere, toVersion2, toVersion1, Moved, ThereAndBack}
-use Rattle.laws.specs.SumLaws.{sum-zero, sum-suc, sum-same, sum-constant, sum-split, any-largest, largest-le, le-largest}
+use Rattle.laws.specs.SumLaws.{any-largest, largest-le, le-largest, sum-single}
 use Rattle.laws.specs.ListLaws.{length-firsts, getD-firsts}
 use Rattle.laws.specs.RuleLaws.{andThen, row-stops, row-passes, none-left, in-parts, NoneHold, none-hold, none-in-parts, none-together, all-pass, agree}
 use Rattle.laws.specs.RowLaws.{no-start, with-start}
@@ -25,8 +26,9 @@ use Rattle.laws.specs.ChainLaws.{version-2, other-version}
 use Rattle.laws.specs.Acceptance.{accepted-model}
 use Rattle.laws.specs.WrittenLaws.{stopped-by-table, stopped-by-room, is-written, was-written}
 use Rattle.laws.specs.WordLaws.{words-first}
-use Rattle.laws.specs.FieldLaws.{Whole, inVersion, numbers-in-version, bytes-in-version, file-of-fields, Fits, length-file}
-use Rattle.laws.specs.MovedLaws.{withStart, Carried, in-version-fits, carried}
+use Rattle.laws.specs.StartLaws.{start-of-one}
+use Rattle.laws.specs.FieldLaws.{Whole, numbers-in-version, bytes-in-version, file-of-fields, Fits, length-file}
+use Rattle.laws.specs.MovedLaws.{startingWith, Carried, in-version-fits, carried}
 
 -- the bytes of so many zeros
 words-zeros : (n : ℕ) → wordsOf (replicate n 0) ≡ replicate (4 * n) 0
@@ -38,11 +40,7 @@ words-zeros (suc n) =
 
 -- numbers of which all but the first are 0
 sum-first : (n : ℕ) (a : ℕ → ℕ) → 1 ≤ n → ((i : ℕ) → i < n - 1 → a (i + 1) ≡ 0) → sum n a ≡ a 0
-sum-first n a low zeros =
-    let whole : 1 + (n - 1) ≡ n = omega arith in
-    let later : sum (n - 1) (λ j. a (1 + j)) ≡ sum (n - 1) (λ j. 0) = sum-same (n - 1) (λ j. a (1 + j)) (λ j. 0) (λ j h. ap a (omega arith) ∙ zeros j h) in
-    let first : sum 1 a ≡ a 0 = sum-suc 0 a ∙ omega (arith, sum-zero a) in
-    ap (λ (k : ℕ). sum k a) (sym whole) ∙ sum-split 1 (n - 1) a ∙ omega (arith, first, later, sum-constant (n - 1) 0)
+sum-first n a low zeros = sum-single n 0 a low (λ j h other. let place : j ≡ j - 1 + 1 = omega (arith, other) in ap a place ∙ zeros (j - 1) (omega (arith, other)))
 
 -- row 17, of n weights: it holds where one but the first is above 0
 pub weight-found : (n : ℕ) (a : ℕ → ℕ) (i : ℕ) → 1 ≤ i → i < n → 0 < a i → anyAbove 0 (n - 1) (λ k. a (k + 1)) ≡ true
@@ -167,10 +165,10 @@ module _ (s : List ℕ) (bytes : (i : ℕ) → getD s i 0 < 256) where
         longer = omega (arith, first-of-all, whole-1 .size, whole-1 .counted, none-held)
 
     -- its model is that of s, with one starting distribution
-    pub model-there : modelOf (movedTo2 s) ≡ withStart (modelOf s) 1 (weightField (movedTo2 s))
+    pub model-there : modelOf (movedTo2 s) ≡ startingWith (modelOf s) 1 (weightField (movedTo2 s))
     model-there =
-        subst (λ (x : List ℕ). modelOf x ≡ withStart (modelOf s) 1 (weightField x)) (sym is-there)
-        (told-there .model ∙ ap (λ (d : ℕ). withStart (modelOf s) d (weightField there)) (told-there .distributed))
+        subst (λ (x : List ℕ). modelOf x ≡ startingWith (modelOf s) 1 (weightField x)) (sym is-there)
+        (told-there .model ∙ ap (λ (d : ℕ). startingWith (modelOf s) d (weightField there)) (told-there .distributed))
 
     -- its weights
     weight-there : (i : ℕ) → i < M → weightField there i ≡ getD (onFirst M) i 0
@@ -186,6 +184,14 @@ module _ (s : List ℕ) (bytes : (i : ℕ) → getD s i 0 < 256) where
         (ap (λ (n : ℕ). sum n (weightField there)) (told-there .states)
         ∙ sum-first M (weightField there) (whole-1 .states-min) weight-later
         ∙ weight-there 0 (whole-1 .states-min))
+
+    -- its start figures are the moments of the first state
+    pub start-there : (N r : ℕ) → startFigure (modelOf (movedTo2 s)) N r ≡ moment (modelOf s) N r 0
+    start-there N r =
+        subst (λ (x : List ℕ). startFigure (modelOf x) N r ≡ moment (modelOf s) N r 0) (sym is-there)
+        (start-of-one (modelOf there) N r 0 (omega (arith, told-there .states, whole-1 .states-min)) (weight-there 0 (whole-1 .states-min))
+        (λ j l other. let place : j ≡ j - 1 + 1 = omega (arith, other) in ap (weightField there) place ∙ weight-later (j - 1) (omega (arith, l, other, told-there .states)))
+        ∙ told-there .moments N r 0)
 
     none-elsewhere : NoneHold (elsewhere (modelOf there))
     unfolding elsewhere
@@ -273,10 +279,10 @@ module _ (s : List ℕ) (bytes : (i : ℕ) → getD s i 0 < 256) where
         no-words = unfold wordsOf in refl
 
     -- its model is that of s, without one
-    pub model-back : modelOf (movedTo1 s) ≡ withStart (modelOf s) 0 (weightField (movedTo1 s))
+    pub model-back : modelOf (movedTo1 s) ≡ startingWith (modelOf s) 0 (weightField (movedTo1 s))
     model-back =
-        subst (λ (x : List ℕ). modelOf x ≡ withStart (modelOf s) 0 (weightField x)) (sym is-back)
-        (told-back .model ∙ ap (λ (d : ℕ). withStart (modelOf s) d (weightField back)) (told-back .distributed))
+        subst (λ (x : List ℕ). modelOf x ≡ startingWith (modelOf s) 0 (weightField x)) (sym is-back)
+        (told-back .model ∙ ap (λ (d : ℕ). startingWith (modelOf s) d (weightField back)) (told-back .distributed))
 
     weighed-back : misweighted (modelOf back) ≡ false
     weighed-back = no-start (modelOf back) (told-back .distributed)

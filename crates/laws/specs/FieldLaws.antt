@@ -10,7 +10,7 @@ use lib.Dec.{eqb}
 use Rattle.definitions.specs.Sums.{firsts, pick}
 use Rattle.definitions.specs.Bytes.{bytesOf}
 use Rattle.definitions.specs.File.{lengthField, version, stateCount, highestMoment, toleranceField, timeField, distributions, rewardsAt}
-use Rattle.definitions.specs.Fields.{Fields, numbersAt, wordsOf, fieldsOf, numbersOf, fileOf}
+use Rattle.definitions.specs.Fields.{Fields, inVersion, numbersAt, wordsOf, fieldsOf, numbersOf, fileOf}
 use Rattle.laws.specs.WordLaws.{part-listed, bytes-listed, bytes-of-big, big-of-bytes, big-below, length-numbers, numbers-further, words-append, length-words, words-of-numbers, numbers-of-words, below-append, bytes-below, words-below, numbers-below}
 
 -- M rewards and M rows of M − 1 rates are M × M numbers
@@ -24,20 +24,6 @@ pub record Whole (s : List ℕ) : Type 0 where
   pub states-min : 1 ≤ stateCount s
   pub size : length s ≡ 4 * stateCount s * stateCount s + 4 * (distributions s * stateCount s) + 13
   pub counted : lengthField s ≡ length s - 2
-
--- the fields f in version v, with the weights w
-abbrev pub inVersion : ℕ → List ℕ → Fields → Fields
-inVersion v w f =
-    record {
-      version = v;
-      states = f .states;
-      highest = f .highest;
-      tolerance = f .tolerance;
-      time = f .time;
-      weights = w;
-      rewards = f .rewards;
-      rates = f .rates;
-    }
 
 module _ (s : List ℕ) (whole : Whole s) where
   abbrev M : ℕ

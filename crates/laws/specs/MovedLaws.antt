@@ -15,26 +15,19 @@ use Rattle.definitions.specs.File.{lengthField, version, stateCount, highestMom
 use Rattle.definitions.specs.Chain.{Model, modelOf, jumpRate, rowSum, uniformRate, c, maxReward, jumpMillionths}
 use Rattle.definitions.specs.Rules.{framing, fittingLength, quantities, misweighted, jumps, fileRows}
 use Rattle.definitions.specs.Moment.{moment, modelLevel}
-use Rattle.definitions.specs.Fields.{Fields, numbersAt, wordsOf, fieldsOf, fileOf}
+use Rattle.definitions.specs.Fields.{Fields, inVersion, numbersAt, wordsOf, fieldsOf, fileOf}
+use Rattle.laws.specs.ByteLaws.{big-drop}
 use Rattle.laws.specs.ListLaws.{getD-firsts}
 use Rattle.laws.specs.RuleLaws.{NoneHold, none-in-parts, none-together, agree}
-use Rattle.laws.specs.FieldLaws.{Whole, inVersion, words-rest, numbers-in-version, Fits, version-of-file, states-of-file, highest-of-file, fields-of-file, whole-file, fields-fit}
-
--- a number read from a later place on, and from what is left there
-big-drop : (width n k : ℕ) (l : List ℕ) → big width (drop n l) k ≡ big width l (n + k)
-unfolding big
-big-drop zero n k l = refl
-big-drop (suc width) n k l =
-    let place : n + (k + width) ≡ n + k + width = omega arith in
-    ap₂ (λ (a b : ℕ). a * 256 + b) (big-drop width n k l) (getD-drop n l (k + width) 0 ∙ ap (λ (i : ℕ). getD l i 0) place)
+use Rattle.laws.specs.FieldLaws.{Whole, words-rest, numbers-in-version, Fits, version-of-file, states-of-file, highest-of-file, fields-of-file, whole-file, fields-fit}
 
 -- two lists that are alike from a place of each on hold the same numbers from there on
 shifted : (width a b k : ℕ) (l x : List ℕ) → drop a l ≡ drop b x → big width l (a + k) ≡ big width x (b + k)
-shifted width a b k l x e = sym (big-drop width a k l) ∙ ap (λ (y : List ℕ). big width y k) e ∙ big-drop width b k x
+shifted width a b k l x e = sym (big-drop width a l k) ∙ ap (λ (y : List ℕ). big width y k) e ∙ big-drop width b x k
 
 -- the model m with so many starting distributions, and the weights a
-abbrev pub withStart : Model → ℕ → (ℕ → ℕ) → Model
-withStart m d a =
+abbrev pub startingWith : Model → ℕ → (ℕ → ℕ) → Model
+startingWith m d a =
     record {
       states = m .states;
       highest = m .highest;
@@ -52,7 +45,7 @@ pub record Carried (s t : List ℕ) (v : ℕ) (w : List ℕ) : Type 0 where
   pub states : stateCount t ≡ stateCount s
   pub distributed : distributions t ≡ pick (eqb v 2) 1 0
   -- its model is that of s but for the starting distribution, at every index
-  pub model : modelOf t ≡ withStart (modelOf s) (distributions t) (weightField t)
+  pub model : modelOf t ≡ startingWith (modelOf s) (distributions t) (weightField t)
   -- the weights that it holds are w
   pub weights : (i : ℕ) → i < distributions t * stateCount t → weightField t i ≡ getD w i 0
   -- rows 1 to 12 and 16 pass where they pass for s, version v is admitted, and the weights pass row 16
@@ -127,7 +120,7 @@ module _ (s : List ℕ) (whole : Whole s) (v : ℕ) (w : List ℕ) where
         there : (x : List ℕ) → rowAt x i + 4 * place i j ≡ rewardsAt x + (4 * stateCount x + 4 * (stateCount x - 1) * i + 4 * place i j)
         there x = omega arith
 
-    model-same : modelOf t ≡ withStart (modelOf s) (distributions t) (weightField t)
+    model-same : modelOf t ≡ startingWith (modelOf s) (distributions t) (weightField t)
     model-same =
         λ i.
         record {

@@ -3,7 +3,6 @@
 use Prim.Native.Nat.{ℕ, zero, suc, _+_, _*_, _/_, _≤_, _<_}
 use native.Mathlib.Omega.{arith}
 use native.Mathlib.Nat.{mul-pos, mul-le-mul-left, mul-le-mul-right, le-of-mul-le-mul-right}
-use native.Mathlib.Decide.{ℕ-discrete}
 use mathlib.Core.Path.{_≡_, refl, sym, _∙_, ap, ap₂}
 use Rattle.definitions.specs.Sums.{sum}
 use Rattle.definitions.specs.Chain.{Model}
@@ -14,22 +13,7 @@ use Rattle.definitions.specs.Fraction.{Fraction, AtMost, ratio, whole, plus, ti
 use Rattle.definitions.specs.Average.{million-pos}
 use Rattle.definitions.specs.Promise.{one-pos, ticks, Within}
 use Rattle.laws.specs.Rounding.{quotient-low, quotient-high, quotient-at-most, quotient-unique}
-use Rattle.laws.specs.SumLaws.{sum-same, sum-mono, sum-times}
-
--- where one entry alone is not 0, the sum is that entry
-sum-none : (n : ℕ) (f : ℕ → ℕ) → ((j : ℕ) → j < n → f j ≡ 0) → sum n f ≡ 0
-unfolding sum
-sum-none zero f none = refl
-sum-none (suc n) f none = omega (arith, sum-none n f (λ j b. none j (omega arith)), none n (omega arith))
-
-sum-single : (n i : ℕ) (f : ℕ → ℕ) → i < n → ((j : ℕ) → j < n → (j ≡ i → ⊥) → f j ≡ 0) → sum n f ≡ f i
-unfolding sum
-sum-single zero i f h others = absurd (omega arith)
-sum-single (suc n) i f h others =
-    elim (ℕ-discrete i n) [
-      | yes e ↦ rw e (omega (arith, sum-none n f (λ j b. others j (omega arith) (λ same. omega (arith, same, e, b)))))
-      | no ne ↦ omega (arith, sum-single n i f (omega arith) (λ j b other. others j (omega arith) other), others n (omega arith) (λ same. ne (sym same)))
-    ]
+use Rattle.laws.specs.SumLaws.{sum-same, sum-mono, sum-times, sum-single}
 
 module _ (M : ℕ) (a p : ℕ → ℕ) where
   -- with all weight on one state the mean is that state's number

@@ -110,3 +110,18 @@ sum-part n k f h = omega (arith, sum-longer n (k - n) f, ap (λ (m : ℕ). sum m
   where
     whole : n + (k - n) ≡ k
     whole = omega arith
+
+-- a sum of zeros; and where one entry alone is not 0, the sum is that entry
+pub sum-none : (n : ℕ) (f : ℕ → ℕ) → ((j : ℕ) → j < n → f j ≡ 0) → sum n f ≡ 0
+unfolding sum
+sum-none zero f none = refl
+sum-none (suc n) f none = omega (arith, sum-none n f (λ j b. none j (omega arith)), none n (omega arith))
+
+pub sum-single : (n i : ℕ) (f : ℕ → ℕ) → i < n → ((j : ℕ) → j < n → (j ≡ i → ⊥) → f j ≡ 0) → sum n f ≡ f i
+unfolding sum
+sum-single zero i f h others = absurd (omega arith)
+sum-single (suc n) i f h others =
+    elim (ℕ-discrete i n) [
+      | yes e ↦ rw e (omega (arith, sum-none n f (λ j b. others j (omega arith) (λ same. omega (arith, same, e, b)))))
+      | no ne ↦ omega (arith, sum-single n i f (omega arith) (λ j b other. others j (omega arith) other), others n (omega arith) (λ same. ne (sym same)))
+    ]

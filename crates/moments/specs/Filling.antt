@@ -1,17 +1,16 @@
 -- What was read of a file and a list of times, and what is asked where the start figures are put.
 use mathlib.Core.List.{List}
 use mathlib.Core.Path.{_≡_}
-use Prim.Native.Nat.{ℕ, _+_, _*_, _-_, _≤_, _<_}
-use lib.Dec.{ltb}
+use Prim.Native.Nat.{ℕ, _+_, _*_, _≤_, _<_}
 use lib.ListN.{length, getD}
 use Rattle.definitions.specs.declared.Sizes.{Sizes}
-use Rattle.definitions.specs.Sums.{sum, blocks, pick}
+use Rattle.definitions.specs.Sums.{sum, blocks}
 use Rattle.definitions.specs.File.{stateCount, highestMoment, distributions, weightField}
 use Rattle.definitions.specs.Chain.{Model, modelOf, uniformRate, sizesOf}
 use Rattle.definitions.specs.Vectors.{ONE}
 use Rattle.definitions.specs.Weights.{MILLION}
-use Rattle.definitions.specs.Moment.{startMean}
 use Rattle.laws.specs.Acceptance.{Framed}
+use Rattle.start.specs.Figures.{startCell}
 use Rattle.vectors.specs.ModelLaws.{Held}
 
 -- the arrays and numbers that were read are those of a model, its chain in the place of the first entries of l, with X of each time
@@ -21,14 +20,9 @@ pub record ReadAs (m : Model) (times : List ℕ) (z : Sizes) (l c f xs : List �
   pub jumps : (k : ℕ) → k < length times → getD xs k 0 ≡ uniformRate m * getD times k 0
   pub tolerance : ε ≡ m .tolerance
 
--- cell e of a block with its start figures: as it was at the moments, and after them the figures of the model's starting distribution
-abbrev pub withStart : Model → (ℕ → ℕ) → ℕ → ℕ
-withStart m block e =
-    pick (ltb e (m .states * m .highest)) (block e) (startMean (m .states) (m .start) (λ i. block (i * m .highest + (e - m .states * m .highest))))
-
 -- the first blocks of B cells with their start figures
 unfoldable pub started : Model → ℕ → ℕ → List ℕ → List ℕ
-started m B count cells = blocks B count (λ k. withStart m (λ e. getD cells (k * B + e) 0)) cells
+started m B count cells = blocks B count (λ k. startCell (m .start) (m .states) (m .highest) (λ e. getD cells (k * B + e) 0)) cells
 
 -- the moments of so many times stand in the cells, and the starting weights, where there are some, sum to 1,000,000
 pub record Startable (s : List ℕ) (z : Sizes) (count : ℕ) (cells : List ℕ) : Type 0 where

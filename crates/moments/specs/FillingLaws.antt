@@ -33,7 +33,7 @@ use Rattle.vectors.specs.ModelLaws.{held, held-ready}
 use Rattle.start.specs.Figures.{startCell, Distribution, AllMoments}
 use Rattle.means.specs.RunningLaws.{in-states}
 use Rattle.means.specs.Solving.{levelOf, cellMean, meansOf, Solvable}
-use Rattle.moments.specs.Filling.{ReadAs, withStart, started, Startable}
+use Rattle.moments.specs.Filling.{ReadAs, started, Startable}
 
 -- equal values up to N have equal weighted means
 mean-same-at : (X N : ℕ) (u v : ℕ → ℕ) → ((n : ℕ) → n ≤ N → u n ≡ v n) → weightedMean X u N ≡ weightedMean X v N
@@ -116,7 +116,7 @@ module _ (s times : List ℕ) (levels cells : ℕ) (g : AcceptedSeries s times l
         }
 
     -- a cell with its start figure is the file's
-    cell-is : (k i : ℕ) → k < length times → i < blockSize s → withStart m (λ j. getD now (k * blockSize s + j) 0) i ≡ cell (modelAt s times k) (levelAt s times k) i
+    cell-is : (k i : ℕ) → k < length times → i < blockSize s → startCell (m .start) (m .states) (m .highest) (λ j. getD now (k * blockSize s + j) 0) i ≡ cell (modelAt s times k) (levelAt s times k) i
     unfolding cell startFigure
     cell-is k i hk hi =
         elim (decLt i (m .states * m .highest)) [
@@ -126,7 +126,7 @@ module _ (s times : List ℕ) (levels cells : ℕ) (g : AcceptedSeries s times l
           | no q ↦ past (omega (arith, q))
         ]
       where
-        past : m .states * m .highest ≤ i → withStart m (λ j. getD now (k * blockSize s + j) 0) i ≡ figureOf (modelAt s times k) (levelAt s times k) (i % m .highest + 1) (i / m .highest)
+        past : m .states * m .highest ≤ i → startCell (m .start) (m .states) (m .highest) (λ j. getD now (k * blockSize s + j) 0) i ≡ figureOf (modelAt s times k) (levelAt s times k) (i % m .highest + 1) (i / m .highest)
         past low =
             let M = m .states in
             let R = m .highest in
@@ -184,7 +184,7 @@ module _ (s : List ℕ) (z : Sizes) (count : ℕ) (cells : List ℕ) (g : Starta
           most = λ k e hk he. rw whole at (g .most k e hk (rw (g .sizes) he));
         })
 
-    pub some-started : blocks ((z .states + 1) * z .highest) count (λ k. startCell weights (z .states) (z .highest) (λ e. getD cells (k * ((z .states + 1) * z .highest) + e) 0)) cells ≡ started (modelOf s) (z .block) count cells
+    pub some-started : blocks ((z .states + 1) * z .highest) count (λ k. startCell (entryOf weights) (z .states) (z .highest) (λ e. getD cells (k * ((z .states + 1) * z .highest) + e) 0)) cells ≡ started (modelOf s) (z .block) count cells
     unfolding started
     some-started =
         rw (whole, g .sizes)

@@ -24,18 +24,18 @@ total-max weights M n p whole h most =
 
 module _ (weights : List ℕ) (M R : ℕ) where
   -- a moment stays
-  pub cell-kept : (block : ℕ → ℕ) (e : ℕ) → e < M * R → startCell weights M R block e ≡ block e
+  pub cell-kept : (block : ℕ → ℕ) (e : ℕ) → e < M * R → startCell (entryOf weights) M R block e ≡ block e
   cell-kept block e b = rw (lt-ltb e (M * R) b) refl
 
   -- the figure for r + 1 stands r cells after the moments
-  pub cell-of-figure : (block : ℕ → ℕ) (r : ℕ) → startCell weights M R block (M * R + r) ≡ startMean M (entryOf weights) (momentsOf R r block)
+  pub cell-of-figure : (block : ℕ → ℕ) (r : ℕ) → startCell (entryOf weights) M R block (M * R + r) ≡ startMean M (entryOf weights) (momentsOf R r block)
   cell-of-figure block r = rw (le-ltb (M * R + r) (M * R) (omega arith), let past : M * R + r - M * R ≡ r = omega arith in past) refl
 
   -- the figures are those of the moments alone
   pub figure-same : (f g : ℕ → ℕ) (r : ℕ) → r < R → ((e : ℕ) → e < M * R → f e ≡ g e) → startMean M (entryOf weights) (momentsOf R r f) ≡ startMean M (entryOf weights) (momentsOf R r g)
   figure-same f g r h same = mean-same M (entryOf weights) (entryOf weights) (momentsOf R r f) (momentsOf R r g) (λ i l. refl) (λ i l. same (i * R + r) (place-below i r M R l h))
 
-  pub cell-same : (f g : ℕ → ℕ) → ((e : ℕ) → e < M * R → f e ≡ g e) → (e : ℕ) → e < (M + 1) * R → startCell weights M R f e ≡ startCell weights M R g e
+  pub cell-same : (f g : ℕ → ℕ) → ((e : ℕ) → e < M * R → f e ≡ g e) → (e : ℕ) → e < (M + 1) * R → startCell (entryOf weights) M R f e ≡ startCell (entryOf weights) M R g e
   cell-same f g same e b =
       elim (decLt e (M * R)) [
         | yes h ↦ rw (lt-ltb e (M * R) h) (same e h)

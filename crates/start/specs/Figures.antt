@@ -18,9 +18,9 @@ momentsOf R r block i = block (i * R + r)
 abbrev pub startTotal : List ℕ → ℕ → (ℕ → ℕ) → ℕ
 startTotal weights M p = sum M (λ i. getD weights i 0 * p i)
 
--- cell e of such a block with its start figures: as it was at the M × R moments, the figures after them
-abbrev pub startCell : List ℕ → ℕ → ℕ → (ℕ → ℕ) → ℕ → ℕ
-startCell weights M R block e = pick (ltb e (M * R)) (block e) (startMean M (entryOf weights) (momentsOf R (e - M * R) block))
+-- cell e of such a block with the start figures of the weights a: as it was at the M × R moments, the figures after them
+abbrev pub startCell : (ℕ → ℕ) → ℕ → ℕ → (ℕ → ℕ) → ℕ → ℕ
+startCell a M R block e = pick (ltb e (M * R)) (block e) (startMean M a (momentsOf R (e - M * R) block))
 
 -- the weights of a starting distribution over at most 64 states, in millionths
 pub record Distribution (weights : List ℕ) (M : ℕ) : Type 0 where

@@ -32,7 +32,7 @@ fn figure(weights: &[u64; 64], states: usize, highest: usize, r: usize, block: &
 // The start figures of one block, after its moments.
 fn put_figures(weights: &[u64; 64], states: usize, highest: usize, block: &mut [u64])
     requires { ⌜ Distribution (now weights) states × Moments (now block) states highest × ((states + 1) * highest ≤ length (now block)) ⌝ }
-    ensures { λ r. ⌜ now (block .exit) ≡ over ((states + 1) * highest) (startCell (now (weights .entry)) states highest (entryOf (now (block .entry)))) (now (block .entry)) ⌝ }
+    ensures { λ r. ⌜ now (block .exit) ≡ over ((states + 1) * highest) (startCell (entryOf (now (weights .entry))) states highest (entryOf (now (block .entry)))) (now (block .entry)) ⌝ }
 {
     let moments = states * highest;
     for r in 0..highest {
@@ -49,7 +49,7 @@ pub fn put_in_blocks(
     cells: &mut [u64],
 )
     requires { ⌜ Distribution (now weights) states × AllMoments (now cells) states highest count ⌝ }
-    ensures { λ r. ⌜ now (cells .exit) ≡ blocks ((states + 1) * highest) count (λ k. startCell (now (weights .entry)) states highest (λ e. getD (now (cells .entry)) (k * ((states + 1) * highest) + e) 0)) (now (cells .entry)) ⌝ }
+    ensures { λ r. ⌜ now (cells .exit) ≡ blocks ((states + 1) * highest) count (λ k. startCell (entryOf (now (weights .entry))) states highest (λ e. getD (now (cells .entry)) (k * ((states + 1) * highest) + e) 0)) (now (cells .entry)) ⌝ }
 {
     let block = (states + 1) * highest;
     for k in 0..count {

@@ -16,7 +16,7 @@ use Rattle.start.proofs.put_figures.Tie as tie
 
 abbrev Inv-loop : tie.InvT-loop
 Inv-loop weights states highest block₀ moments r₀ block r =
-    (block ≡ over (moments + r) (startCell weights states highest (entryOf block₀)) block₀) × (r ≤ highest) × (length block ≡ length block₀)
+    (block ≡ over (moments + r) (startCell (entryOf weights) states highest (entryOf block₀)) block₀) × (r ≤ highest) × (length block ≡ length block₀)
 
 abbrev μ-loop : tie.MeasureT-loop
 μ-loop weights states highest block₀ moments r₀ block r = highest - r
@@ -31,7 +31,7 @@ module _ (c : tie.Start Inv-loop μ-loop) where
 
   -- the cells with all figures: those of the moments stay
   abbrev put : ℕ → ℕ
-  put = startCell (c .args .weights .now) (c .args .states) (c .args .highest) (entryOf (c .args .block .now))
+  put = startCell (entryOf (c .args .weights .now)) (c .args .states) (c .args .highest) (entryOf (c .args .block .now))
 
   kept : (e : ℕ) → e < cells → put e ≡ getD (c .args .block .now) e 0
   kept e b = cell-kept (c .args .weights .now) (c .args .states) (c .args .highest) (entryOf (c .args .block .now)) e b

@@ -20,7 +20,7 @@ size M R = (M + 1) * R
 
 abbrev Inv-loop : tie.InvT-loop
 Inv-loop weights states highest count cells₀ block k₀ cells k =
-    (cells ≡ blocks (size states highest) k (λ j. startCell weights states highest (λ e. getD cells₀ (j * size states highest + e) 0)) cells₀) × (k ≤ count) × (length cells ≡ length cells₀)
+    (cells ≡ blocks (size states highest) k (λ j. startCell (entryOf weights) states highest (λ e. getD cells₀ (j * size states highest + e) 0)) cells₀) × (k ≤ count) × (length cells ≡ length cells₀)
 
 abbrev μ-loop : tie.MeasureT-loop
 μ-loop weights states highest count cells₀ block k₀ cells k = count - k
@@ -37,7 +37,7 @@ module _ (c : tie.Start Inv-loop μ-loop) where
   given j e = getD (c .args .cells .now) (j * B + e) 0
 
   abbrev put : ℕ → ℕ → ℕ
-  put j = startCell (c .args .weights .now) (c .args .states) (c .args .highest) (given j)
+  put j = startCell (entryOf (c .args .weights .now)) (c .args .states) (c .args .highest) (given j)
 
 loop-holds : tie.Need-loop-holds Inv-loop μ-loop
 loop-holds c = (sym (blocks-none (B (c .before)) (put (c .before)) (c .before .args .cells .now)), omega arith, refl)
