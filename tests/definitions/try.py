@@ -1,19 +1,21 @@
 #!/usr/bin/env python3
-"""The definitions tried by an outside program: what the reference says of small generated files, alone, with lists of
-times and with a state, n and r, as theorems.
+"""The definitions tried by an outside program: what the reference says of small generated files of both versions, alone,
+with lists of times, with a state, n and r, and of their moves to the other version, as theorems.
 
     python3 tests/definitions/try.py             every statement must be proved
     python3 tests/definitions/try.py --wrong     one number of each kind in a case is altered; each must be refused
     --seed N    other files and numbers        --keep    leave the scratch crate, and say where it stands
 
 Each file is a theorem three times: what a call answers (the level, or the refusal's number), all cells after
-the call (also those past the moments, which stay), and the bytes of the printed sheet. Each file with a list of
-times (document 02, S-3) is one three times too: what the list's table answers, all level cells and all block cells
-after the call (also those past the last level and block, which stay). A fourth says which bytes the file has with
+the call (also those past the moments and start figures, which stay), and the bytes of the printed sheet. Each file with
+a list of times (document 02, S-3) is one three times too: what the list's table answers, all level cells and all block
+cells after the call (also those past the last level and block, which stay). A fourth says which bytes the file has with
 the list's last time in the place of its own, where the list is accepted or row 12 stops it. Each file with a state,
 n and r (S-4) is one four times: what the call answers (the rests of V, W and U, none, or the refusal's number), and
 each of the three numbers after the call (which stay where no rests are given). Where they are given, a fifth says the
-quotients V, W and U. The numbers are the reference's. The theorems stand in a scratch crate outside the repository,
+quotients V, W and U. Each move of a file (S-5) is one twice: what the call answers (the count of bytes, or the refusal's
+number), and all bytes after the call (also those past the moved file, which stay). Where it is accepted, a third says the
+moved file. The numbers are the reference's. The theorems stand in a scratch crate outside the repository,
 which cites crates/definitions and is checked by `rt check DIR`. A refusal counts only where the prover names the
 altered statement and says that its two sides differ, and for each kind of number it must have shown the right and the
 altered one side by side.
@@ -48,6 +50,7 @@ use lib.ListN.{length, getD}
 use Rattle.definitions.specs.Chain.{modelOf, chainOf}
 use Rattle.definitions.specs.Rules.{accepted, refused, lastTime}
 use Rattle.definitions.specs.Remainders.{given, none, numberAfter, meanOf, shareOf}
+use Rattle.definitions.specs.Written.{countOf, bytesAfter}
 """
 USE = "use Rattle.definitions.specs.{module}.{{{names}}}\n"
 LENT = """
@@ -65,7 +68,9 @@ ANSWER = {
     "times": "accepted tt",
     "given": "accepted (given (record {{ mean = {}; share = {}; mix = {} }}))",
     "none": "accepted none",
+    "bytes": "accepted {}",
 }
+RIGHT = {"moved": "accepted ({})"}    # for the other parts, what is written is all
 LEFT = {
     "calculate": {
         "answer": "outcome {file} (length {cells})",
@@ -84,6 +89,16 @@ LEFT = {
         "share": "numberAfter (remaindersOf {file} {state} {n} {r}) (λ x. x .share) (getD {share} 0 0) ∷ []",
         "mix": "numberAfter (remaindersOf {file} {state} {n} {r}) (λ x. x .mix) (getD {mix} 0 0) ∷ []",
         "quotients": "meanOf (chainOf (modelOf {file})) {n} {r} ({state} - 1) ∷ shareOf (chainOf (modelOf {file})) {n} {r} ({state} - 1) ∷ U (chainOf (modelOf {file})) {n} {r} ({state} - 1) ∷ []",
+    },
+    "to_version_2": {
+        "answer": "countOf (toVersion2 {file} (length {out}))",
+        "out": "bytesAfter (toVersion2 {file} (length {out})) {out}",
+        "moved": "toVersion2 {file} (length {out})",
+    },
+    "to_version_1": {
+        "answer": "countOf (toVersion1 {file} (length {out}))",
+        "out": "bytesAfter (toVersion1 {file} (length {out})) {out}",
+        "moved": "toVersion1 {file} (length {out})",
     },
 }
 
@@ -123,20 +138,53 @@ def accepted_fields(rng):
     }
 
 
+# Files of version 2 that no rule stops: M, R and their kind of starting weights (models.STARTS).
+STARTING = {"start-one-state": (1, 2, "on-first"), "start-on-first": (2, 2, "on-first"), "start-on-last": (3, 2, "on-last"), "start-nearly-on-one": (2, 2, "nearly-on-one"), "start-with-zeros": (3, 2, "with-zeros"), "start-even": (3, 1, "even"), "start-uneven": (3, 3, "uneven")}
+
+
+def starting_fields(rng, name):
+    """The fields of a file of STARTING."""
+    M, R, kind = STARTING[name]
+    return models.in_version_2(small(rng, M, R), models.STARTS[kind](rng, M))
+
+
+def shows_rounding(file):
+    """Whether every start figure of a file would be another one if it were rounded to the nearest or up, or if each
+    weight times moment were rounded down by itself. All weight on one state leaves nothing to round."""
+    model, cells = calculator.read_model(file), [0] * inputs.need(file)
+    calculator.calculate(file, cells)
+    for r in range(model.R):
+        terms = [weight * moment for weight, moment in zip(model.a, cells[r::model.R])]
+        left, lefts = sum(terms) % calculator.MILLION, sum(term % calculator.MILLION for term in terms)
+        if 2 * left < calculator.MILLION or lefts < calculator.MILLION:
+            return max(model.a) == models.ALL_WEIGHT
+    return True
+
+
+def starting_file(rng, name):
+    """The bytes of a file of STARTING, drawn until its level is at most 4 and its figures show their rounding."""
+    while True:
+        file = models.build(**starting_fields(rng, name))
+        if inputs.limits(file)["n"] <= 4 and shows_rounding(file):
+            return file
+
+
 def accepted_files(rng):
-    """(name, bytes) of files that no rule stops."""
-    made = [(name, models.build(**each)) for name, each in accepted_fields(rng).items()]
-    return made + [(name, (ROOT / f"conformance/files/{name}.model").read_bytes()) for name in HALVES]
+    """{name: bytes} of files that no rule stops."""
+    made = {name: models.build(**each) for name, each in accepted_fields(rng).items()}
+    kit = {name: (ROOT / f"conformance/files/{name}.model").read_bytes() for name in HALVES}
+    return {**made, **kit, **{name: starting_file(rng, name) for name in STARTING}}
 
 
 def refused_files(rng):
-    """(rule, bytes) of files that one of the rules 1 to 12 stops, just past its border."""
+    """(rule, bytes) of version 1 files that one of the rules 1 to 12 stops, just past its border."""
     def changed(**fields):
         return models.build(**{**small(rng, 2, 2), **fields})
     return [
         (1, changed()[:12]),
         (2, changed() + b"\0"),
-        (3, changed(version=2)),
+        (3, changed(version=0)),
+        (3, changed(version=3)),
         (4, changed(M=0)),
         (4, changed(M=65)),
         (5, changed(R=0)),
@@ -154,25 +202,59 @@ def refused_files(rng):
     ]
 
 
+def with_version(file, version):
+    return file[:2] + bytes([version]) + file[3:]
+
+
+def breaking(rng, *rules):
+    """A file of version 2 and two states that breaks these of the rules 1 to 12, 16 and 17."""
+    return models.breaking(rng, starting_fields(rng, "start-on-first"), set(rules))
+
+
+def refused_starts(rng):
+    """(rule, bytes) of version 2 files that one of the rules 1 to 12 and 16 stops: by the next version, by a wrong length,
+    by each wrong sum of models.WRONG_SUMS, by a rule with later ones and, last, by each rule with the next one."""
+    order = inputs.ROWS["calculate"][:-1]
+    two = starting_fields(rng, "start-on-first")
+    return [
+        (3, with_version(models.build(**two), 3)),
+        (6, with_version(models.build(**small(rng, 1, 1)), 2)),
+        (6, with_version(models.build(**small(rng, 2, 2)), 2)),
+        (6, models.relength(models.build(**two)[:-4])),
+        *((16, models.build(**{**two, "weights": make(rng, 2)})) for make in models.WRONG_SUMS.values()),
+        (3, breaking(rng, 3, 16)),
+        (6, breaking(rng, 6, 16)),
+        (8, breaking(rng, 8, 9, 16)),
+        (16, breaking(rng, 10, 16)),
+        (16, breaking(rng, 11, 16)),
+        (16, breaking(rng, 12, 16)),
+        *((rule, breaking(rng, *order[place:place + 2])) for place, rule in enumerate(order)),
+    ]
+
+
 def lent(rng, count):
     """So many cells with numbers of chance, which tell what a call leaves."""
     return [rng.randint(1, 99) for _ in range(count)]
 
 
-def file_cases(rng, accepted, refused):
-    """Every file with its cells: two more than the moments need; one for rule 12 before 13; one less than needed for 13."""
+def file_cases(rng, accepted, refused, refused_2):
+    """Every file with its cells: two more than its figures need; for 13, and for 12 and 16 before it, less than needed,
+    of version 2 also just as many as its moments need."""
     def case(name, rule, file, count):
         return Case("calculate", name, rule, dict(file=file, cells=lent(rng, count)))
-    result = [case(name, 0, file, inputs.need(file) + 2) for name, file in accepted]
+    result = [case(name, 0, file, inputs.need(file) + 2) for name, file in accepted.items()]
     result += [case(f"rule-{rule}-{place}", rule, file, 4) for place, (rule, file) in enumerate(refused)]
-    result.append(case("rule-12-before-13", 12, refused[-1][1], 1))
-    return result + [case("rule-13", 13, models.build(**small(rng, 2, 2)), 3)]
+    result += [case(f"start-rule-{rule}-{place}", rule, file, 8) for place, (rule, file) in enumerate(refused_2)]
+    result.append(case("rule-12-before-13", 12, dict(refused)[12], 1))
+    result += [case(f"start-rule-{rule}-before-13", rule, dict(refused_2)[rule], 5) for rule in (12, 16)]
+    result.append(case("rule-13", 13, models.build(**small(rng, 2, 2)), 3))
+    return result + [case(f"start-rule-13-{count}", 13, accepted["start-on-first"], count) for count in (4, 5)]
 
 
 # --- The files with lists of times ----------------------------------------------------------------------------
 
 # The accepted files that get a list no row stops, and how many times it has.
-TIMES = {"one-state": 1, "one-state-q-above-1": 4, "two-states": 3, "three-states": 2, "q-below-1": 4, "absorbing-state": 2, "no-rates": 8, "at-the-borders": 2, "half-tick-3": 2, "half-tick-to-one-less": 3}
+TIMES = {"one-state": 1, "one-state-q-above-1": 4, "two-states": 3, "three-states": 2, "q-below-1": 4, "absorbing-state": 2, "no-rates": 8, "at-the-borders": 2, "half-tick-3": 2, "half-tick-to-one-less": 3, "start-one-state": 1, "start-on-first": 1, "start-nearly-on-one": 3, "start-even": 2}
 
 
 def rising(rng, file, count):
@@ -184,11 +266,11 @@ def rising(rng, file, count):
     return sorted(times)
 
 
-def refused_lists(files, stopped):
-    """(rule, file, times, count of level cells, of block cells) of lists that a row stops. Most break later rows too: a
-    list of 9 zeros 8, 14 and 15, an empty one 14, and `few` cells 13 for every list that has a time."""
-    two = files["two-states"]
-    longest = inputs.longest_time(two)
+def refused_lists(two, stopped):
+    """(rule, file, times, count of level cells, of block cells) of lists that a row stops, with an accepted file of two
+    states or a stopped one. Most break later rows too: a list of 9 zeros 8, 14 and 15, an empty one 14, and `few` cells 13
+    for every list that has a time."""
+    longest, block = inputs.longest_time(two), inputs.need(two)
     few = 1, 3
     return [
         *((rule, stopped[rule], [0] * 9, *few) for rule in range(1, 8)),
@@ -201,12 +283,24 @@ def refused_lists(files, stopped):
         (15, two, [1, 2, 4, 0], *few),
         (12, two, [1, longest + 1], *few),
         (12, two, [models.MAX_WORD], *few),
-        (13, two, [1, longest], 1, 8),
-        (13, two, [1, longest], 2, 7),
+        (13, two, [1, longest], 1, 2 * block),
+        (13, two, [1, longest], 2, 2 * block - 1),
     ]
 
 
-def list_cases(rng, files, stopped):
+def refused_lists_2(two, stopped):
+    """The same of version 2 alone: 16 before and after other rows, and block cells for the moments alone."""
+    few = 1, 3
+    return [
+        (8, stopped[16], [0, 1, 1], *few),
+        (16, stopped[16], [], *few),
+        (16, stopped[16], [2, 1], *few),
+        (16, stopped[16], [models.MAX_WORD], *few),
+        (13, two, [1, 2], 2, 8),
+    ]
+
+
+def list_cases(rng, files, stopped, stopped_2):
     """Every list with its file and its cells. Those of an accepted list are as many as needed, or one or two more, and its
     file mostly has a time of its own that the list has not."""
     def case(name, rule, file, times, levels, cells):
@@ -216,7 +310,9 @@ def list_cases(rng, files, stopped):
         file, more = files[name], (place + 2) % 3
         other = inputs.with_time(file, inputs.another_time(rng, file))
         result.append(case(name, 0, other, rising(rng, file, count), count + more, count * inputs.need(file) + more))
-    for place, (rule, *given) in enumerate(refused_lists(files, stopped)):
+    two, two_2 = files["two-states"], files["start-on-first"]
+    lists = refused_lists(two, stopped) + refused_lists(two_2, stopped_2) + refused_lists_2(two_2, stopped_2)
+    for place, (rule, *given) in enumerate(lists):
         result.append(case(f"rule-{rule}-{place}", rule, *given))
     return result
 
@@ -227,14 +323,14 @@ RESTS = ("mean", "share", "mix")
 
 # Files that are asked, and whether V, W and U leave a rest there. V leaves none where E is 1, nor where no rate leads out
 # of the state, and there U leaves none either, since V is W. W leaves none where there is one state.
-ASKED = {"three-states": (True, True, True), "rates-of-1": (False, True, True), "absorbing-state": (False, True, False), "no-rates": (False, True, False), "one-state-q-above-1": (False, False, False)}
+ASKED = {"three-states": (True, True, True), "rates-of-1": (False, True, True), "absorbing-state": (False, True, False), "no-rates": (False, True, False), "one-state-q-above-1": (False, False, False), "start-uneven": (True, True, True)}
 
 
 def asked(rng, name, places):
     """A file with state, n and r: some at their places, the others within their limits. Drawn until the level is from 2
     to 6, and the rests that are given are above 0 as ASKED has it."""
     while True:
-        fields = {**accepted_fields(rng), "rates-of-1": small(rng, 2, 2, most=1, T=2_000_000)}
+        fields = {**accepted_fields(rng), "rates-of-1": small(rng, 2, 2, most=1, T=2_000_000), "start-uneven": starting_fields(rng, "start-uneven")}
         file = models.build(**fields[name])
         limit = inputs.limits(file)
         numbers = {**inputs.within(rng, limit), **{number: inputs.PLACES[place](limit[number]) for number, place in places.items()}}
@@ -257,8 +353,9 @@ def refused_numbers(rng, refused):
         yield rule, dict(file=file, **numbers)
 
 
-def asked_cases(rng, refused):
-    """State, n and r at their places, then within every file of ASKED, then with the refused files."""
+def asked_cases(rng, refused, refused_2):
+    """State, n and r at their places, then within every file of ASKED, then past the states of a version 2 file, where
+    its start figures have no rests, then with the refused files."""
     def case(name, rule, given):
         before = rng.sample(range(100, 1000), len(RESTS))    # three different ones, above every rest of U
         return Case("remainders", f"asked-{name}", rule, dict(given, **{rest: [number] for rest, number in zip(RESTS, before)}))
@@ -267,16 +364,79 @@ def asked_cases(rng, refused):
         inside = set(places.values()) <= {"1", "limit"}
         result.append(case(name, 0 if inside else "none", asked(rng, "three-states", places)))
     result += [case(name, 0, asked(rng, name, {})) for name in ASKED]
-    return result + [case(f"rule-{rule}-{place}", rule, given) for place, (rule, given) in enumerate(refused_numbers(rng, refused))]
+    result.append(case("start-past-states", "none", asked(rng, "start-uneven", {"state": "past-limit"})))
+    result += [case(f"rule-{rule}-{place}", rule, given) for place, (rule, given) in enumerate(refused_numbers(rng, refused))]
+    return result + [case(f"start-rule-{rule}", rule, given) for rule, given in refused_numbers(rng, [*dict(refused_2).items()])]
+
+
+# --- The files that are moved ---------------------------------------------------------------------------------
+
+# The version 1 files that are moved to version 2 and, so moved, back. One of eight states has a length above 255.
+MOVED = ["one-state", "two-states", "three-states", "absorbing-state", "no-rates", "at-the-borders", "half-tick-3", "eight-states"]
+
+
+def refused_moves(rng, files, refused, refused_2):
+    """(call, rule, file, how many bytes are lent past those of the moved file). Where it is below 0, 13 holds too."""
+    two, two_2, eight = files["two-states"], files["start-on-first"], files["eight-states"]
+    elsewhere = [files[name] for name in STARTING if any(inputs.weights_of(files[name])[1:])]
+    there, back = "to_version_2", "to_version_1"
+    by_rule = [(there, *each) for each in refused] + [(back, *each) for each in refused_2]
+    return [
+        *((*each, -1 if place % 2 else 2) for place, each in enumerate(by_rule)),
+        (there, 3, two_2, 9),
+        (there, 3, dict(refused_2)[16], -1),
+        (there, 3, with_version(two, 2), 0),
+        (there, 6, with_version(two_2, 1), 0),
+        (there, 13, two, -1),
+        (there, 13, two, -8),    # as many as the file itself has
+        (there, 13, files["one-state"], -99),
+        (there, 13, eight, -1),
+        (back, 3, two, 0),
+        (back, 3, dict(refused)[12], -1),
+        (back, 3, with_version(two_2, 1), 0),
+        *((back, 17, file, more) for file, more in zip(elsewhere, (0, -1, 8, 1, -99))),
+        (back, 17, models.build(**{**starting_fields(rng, "start-on-first"), "weights": [999_999, 1]}), 0),
+        (back, 9, breaking(rng, 9, 17), 0),
+        (back, 11, breaking(rng, 11, 17), -1),
+        (back, 12, breaking(rng, 12, 17), 0),
+        (back, 12, breaking(rng, 12, 17), -1),
+        (back, 13, two_2, -1),
+        (back, 13, files["start-one-state"], -99),
+        (back, 13, calculator.as_version_2(eight), -1),
+    ]
+
+
+def move_cases(rng, accepted, refused, refused_2):
+    """Every move with the bytes that are lent; for those that are accepted just enough, or one or two more."""
+    def case(call, name, rule, file, more):
+        out = lent(rng, max(0, inputs.moved_length(call, file) + more))
+        return Case(call, f"move-{call[-1]}-{name}", rule, dict(file=file, out=out))
+    files = {**accepted, "eight-states": models.build(**small(rng, 8, 1))}
+    result = []
+    for place, name in enumerate(MOVED):
+        result.append(case("to_version_2", name, 0, files[name], place % 3))
+        result.append(case("to_version_1", name, 0, calculator.as_version_2(files[name]), (place + 1) % 3))
+    result += [case("to_version_1", name, 0, files[name], 0) for name in ("start-one-state", "start-on-first")]
+    for place, (call, rule, file, more) in enumerate(refused_moves(rng, files, refused, refused_2)):
+        result.append(case(call, f"rule-{rule}-{place}", rule, file, more))
+    return result
 
 
 def cases(rng):
-    """All files alone, then some of them with lists, then files with a state, n and r."""
-    accepted, refused = accepted_files(rng), refused_files(rng)
-    return file_cases(rng, accepted, refused) + list_cases(rng, dict(accepted), dict(refused)) + asked_cases(rng, refused)
+    """All files alone, then some of them with lists, then files with a state, n and r, then moves."""
+    accepted, refused, refused_2 = accepted_files(rng), refused_files(rng), refused_starts(rng)
+    return [
+        *file_cases(rng, accepted, refused, refused_2),
+        *list_cases(rng, accepted, dict(refused), dict(refused_2)),
+        *asked_cases(rng, refused, refused_2),
+        *move_cases(rng, accepted, refused, refused_2),
+    ]
 
 
 # --- What is stated of them -----------------------------------------------------------------------------------
+
+# Cases whose numbers are not altered: hundreds of weights or of bytes would take the prover longest to show.
+LONG = {"most-jumps", "move-2-eight-states", "move-1-eight-states"}
 
 # One theorem: its case, a label, the part of LEFT that it is about, and the value on the right.
 Fact = namedtuple("Fact", "case label part value")
@@ -289,6 +449,7 @@ KINDS = {
     "times": {"acceptance": [0]},
     "given": {"given": [0], "rest-of-V": [1], "rest-of-W": [2], "rest-of-U": [3]},
     "none": {"none": [0]},
+    "bytes": {"count": [1]},
     "file": {"byte": range(9, 13)},
     "quotients": {"V": [0], "W": [1], "U": [2]},
 }
@@ -303,11 +464,13 @@ def right_facts(case):
     answer = getattr(calculator, case.call)(**given)
     if {"refused": answer[1], "none": "none"}.get(answer[0], 0) != case.rule:
         sys.exit(f"try.py: {case.name} is answered {answer}: the case does not show what it is for")
-    values = {"answer": answer, **{part: given[part] for part in ("levels", "cells", *RESTS) if part in given}}
+    values = {"answer": answer, **{part: given[part] for part in ("levels", "cells", *RESTS, "out") if part in given}}
     if case.call == "calculate":
         values["sheet"] = list(calculator.sheet(given["file"]))
     elif case.call == "series" and case.rule in (0, 12):
         values["file"] = list(inputs.with_time(given["file"], given["times"][-1]))
+    elif answer[0] == "bytes":
+        values["moved"] = given["out"][:answer[1]]
     elif answer[0] == "given":
         values.update(given_values(**{each: given[each] for each in ("file", *inputs.NUMBERS)}))
     return [Fact(case, part, part, value) for part, value in values.items()]
@@ -326,13 +489,23 @@ def kinds(fact):
     same = KINDS.get(value[0] if part == "answer" else part)
     if same:
         return same.items()
+    file = case.given["file"]
     if part == "sheet":
-        return [("byte", range(len(value)))]
+        lines = len(bytes(value).split(b"start")[0])    # those before the start's
+        return [("byte", range(lines)), ("start-byte", range(lines, len(value)))]
+    if part == "moved":
+        weights = range(13, 13 + 4 * file[3]) if case.call == "to_version_2" else []
+        return [("moved-length", range(2)), ("moved-version", [2]), ("moved-weight", weights),
+                ("moved-number", [place for place in range(3, len(value)) if place not in weights])]
     times = len(case.given["times"]) if case.call == "series" else 1
-    name, stays, size = {"levels": ("level", "level-that-stays", 1),
-                         "cells": ("moment", "cell-that-stays", inputs.need(case.given["file"]))}.get(part, (part, f"{part}-that-stays", 1))
-    filled = 0 if case.rule else times * size
-    return [(name, range(filled)), (stays, range(filled, len(value)))]
+    size = {"cells": inputs.need(file), "out": inputs.moved_length(case.call, file)}.get(part, 1)
+    filled = range(0 if case.rule else times * size)
+    stays = range(len(filled), len(value))
+    if part == "cells":
+        starts = [place for place in filled if place % size >= file[3] * file[4]]
+        return [("moment", [place for place in filled if place not in starts]), ("start-figure", starts), ("cell-that-stays", stays)]
+    name = {"levels": "level", "out": "byte"}.get(part, part)
+    return [(name, filled), (f"{name}-that-stays", stays)]
 
 
 def altered(value, place):
@@ -388,7 +561,8 @@ def theorems(facts):
     for fact in facts:
         name = fact.case.name
         left = LEFT[fact.case.call][fact.part].format(**{what: f"{name}-lent-{what}" for what in fact.case.given})
-        text.append(THEOREM.format(name=name, label=fact.label, left=left, right=written(fact.value), unfolded=unfolded))
+        right = RIGHT.get(fact.part, "{}").format(written(fact.value))
+        text.append(THEOREM.format(name=name, label=fact.label, left=left, right=right, unfolded=unfolded))
     return "".join(text)
 
 
@@ -428,7 +602,7 @@ def errors(said):
 def counted(call, facts):
     """The cases and the theorems of a call, in words."""
     of_call = [fact for fact in facts if fact.case.call == call]
-    words = Counter({"level": "accepted", "times": "accepted"}.get(fact.value[0], fact.value[0]) for fact in of_call if fact.part == "answer")
+    words = Counter({"level": "accepted", "times": "accepted", "bytes": "accepted"}.get(fact.value[0], fact.value[0]) for fact in of_call if fact.part == "answer")
     return f"{call} {sum(words.values())} cases ({', '.join(f'{count} {word}' for word, count in sorted(words.items()))}), {len(of_call)} theorems"
 
 
@@ -466,7 +640,7 @@ def try_wrong(folder, wrongs):
 
 
 def main():
-    parser = models.Parser(description="State what the reference says of small files, alone, with lists of times and with a state, n and r, and let the prover check it.")
+    parser = models.Parser(description="State what the reference says of small files, alone, with lists of times, with a state, n and r, and moved, and let the prover check it.")
     parser.add_argument("--wrong", action="store_true", help="alter one number of each kind in a case; each must be refused")
     parser.add_argument("--seed", type=int, default=1)
     parser.add_argument("--keep", action="store_true", help="leave the scratch crate")
@@ -477,8 +651,7 @@ def main():
     began = time.monotonic()
     try:
         if options.wrong:
-            # not the file whose hundreds of weights would take the prover longest to show
-            good, line = try_wrong(folder, [wrong for facts in tried if facts[0].case.name != "most-jumps" for wrong in wrong_facts(rng, facts)])
+            good, line = try_wrong(folder, [wrong for facts in tried if facts[0].case.name not in LONG for wrong in wrong_facts(rng, facts)])
         else:
             good, line = try_right(folder, [fact for facts in tried for fact in facts])
     finally:
