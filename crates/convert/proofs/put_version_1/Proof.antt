@@ -1,6 +1,6 @@
 -- `convert::put_version_1` meets its contract: two texts, one after the other, are the moved file. Assumes nothing.
 use Prim.Native.Nat.{ℕ, _+_, _*_, _-_, _<_}
-use mathlib.Core.Path.{_≡_, subst}
+use mathlib.Core.Path.{_≡_}
 use mathlib.Core.List.{List}
 use native.Mathlib.Omega.{arith}
 use borrow.Author.Needs.{needs}
@@ -8,9 +8,8 @@ use lib.ListN.{length, getD, drop, length-drop, length-take}
 use Rattle.definitions.specs.File.{stateCount}
 use Rattle.laws.specs.Acceptance.{AcceptedModel, accepted-model}
 use Rattle.laws.specs.ConvertLaws.{size-2}
-use Rattle.writing.specs.Printed.{Printed}
-use Rattle.writing.specs.Puts.{then, printed}
-use Rattle.convert.specs.Texts.{text-back}
+use Rattle.writing.specs.Puts.{then}
+use Rattle.convert.specs.Texts.{printed-back}
 use Rattle.convert.proofs.put_version_1.Statement.{statement}
 use Rattle.convert.proofs.put_version_1.Tie as tie
 
@@ -33,10 +32,12 @@ returns c =
     let start = known .before in
     let s : List ℕ = start .args .file .now in
     let states = count .state-count .result in
-    let text = text-back s (bytes known) (start .pre .0) (header .before .before .length-field .result - 4 * states) (13 + 4 * states) (omega (arith, header .before .before .length-field .ensures, count .state-count .ensures)) (omega (arith, count .state-count .ensures)) in
     let put = then (header .put-header .ensures) (word .put-word .ensures) in
-    subst (λ (x : List ℕ). Printed x (start .args .out .now) (word .put-word .last .0) (word .put-word .result)) text
-    (printed (omega (arith, start .pre .1, size known, count .state-count .ensures, length-take (length s - (13 + 4 * states)) (drop (13 + 4 * states) s), length-drop (13 + 4 * states) s)) put)
+    printed-back s (bytes known) (start .pre .0) _ _ _ _ put
+    (omega (arith, header .before .before .length-field .ensures, count .state-count .ensures))
+    (omega arith)
+    (omega (arith, count .state-count .ensures))
+    (omega (arith, start .pre .1, size known, count .state-count .ensures, length-take (length s - (13 + 4 * states)) (drop (13 + 4 * states) s), length-drop (13 + 4 * states) s))
 
 pub put-version-1-spec : {M : Type 1} → statement M
 put-version-1-spec =

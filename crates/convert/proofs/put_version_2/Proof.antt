@@ -1,6 +1,5 @@
 -- `convert::put_version_2` meets its contract: three texts, one after the other, are the moved file. Assumes nothing.
-use Prim.Native.Nat.{ℕ, _+_, _*_, _-_, _<_}
-use mathlib.Core.Path.{subst}
+use Prim.Native.Nat.{ℕ, _-_, _<_}
 use mathlib.Core.List.{List}
 use native.Mathlib.Omega.{arith}
 use borrow.Author.Needs.{needs}
@@ -8,9 +7,8 @@ use lib.ListN.{length, getD, drop, length-drop, length-take}
 use Rattle.definitions.specs.File.{lengthField}
 use Rattle.laws.specs.WordLaws.{big-below}
 use Rattle.laws.specs.Acceptance.{Framed, accepted-model}
-use Rattle.writing.specs.Printed.{Printed}
-use Rattle.writing.specs.Puts.{then, printed}
-use Rattle.convert.specs.Texts.{text-there}
+use Rattle.writing.specs.Puts.{then}
+use Rattle.convert.specs.Texts.{printed-there}
 use Rattle.convert.proofs.put_version_2.Statement.{statement}
 use Rattle.convert.proofs.put_version_2.Tie as tie
 
@@ -32,11 +30,13 @@ returns c =
     let known = count .before .before in
     let start = known .before in
     let s : List ℕ = start .args .file .now in
-    let states = count .state-count .result in
-    let text = text-there s (bytes known) (start .pre .0) (header .before .before .length-field .result + 4 * states) states (omega (arith, header .before .before .length-field .ensures, count .state-count .ensures)) (omega (arith, count .state-count .ensures)) in
     let put = then (then (header .put-header .ensures) (weights .put-weights .ensures)) (word .put-word .ensures) in
-    subst (λ (x : List ℕ). Printed x (start .args .out .now) (word .put-word .last .0) (word .put-word .result)) text
-    (printed (omega (arith, start .pre .1, framed start, count .state-count .ensures, length-take (length s - 13) (drop 13 s), length-drop 13 s)) put)
+    printed-there s (bytes known) (start .pre .0) _ _ (count .state-count .result) _ _ put
+    (omega (arith, header .before .before .length-field .ensures, count .state-count .ensures))
+    (omega arith)
+    (omega (arith, count .state-count .ensures))
+    (omega arith)
+    (omega (arith, start .pre .1, framed start, count .state-count .ensures, length-take (length s - 13) (drop 13 s), length-drop 13 s))
 
 pub put-version-2-spec : {M : Type 1} → statement M
 put-version-2-spec =
