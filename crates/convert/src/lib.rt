@@ -15,11 +15,9 @@ ghost use Rattle.definitions.specs.Convert.{movedTo2, movedTo1, toVersion2, toV
 ghost use Rattle.laws.specs.Acceptance.{Framed};
 ghost use Rattle.writing.specs.Puts.{Puts};
 ghost use Rattle.writing.specs.Printed.{Printed};
+use definitions::ALL_WEIGHT;
 use definitions::Judgement;
 use definitions::Written;
-
-// The weight of a state that has all of it.
-const ALL_WEIGHT: u64 = 1_000_000;
 
 // Row 17: whether a state other than the first has weight.
 fn weight_elsewhere(file: &[u8]) -> bool
@@ -43,7 +41,7 @@ fn put_header(file: &[u8], out: &mut [u8], later: u64, version: u8) -> usize
 {
     let second = writing::put_big(out, 0, later, 2);
     let third = writing::put(out, second, version);
-    writing::put_word(out, third, &file[3..13])
+    writing::put_word(out, third, &file[reader::STATES_AT..reader::HEADER])
 }
 
 // The weights of so many states: all of it on the first, none on the others.
@@ -65,7 +63,7 @@ fn put_version_2(file: &[u8], out: &mut [u8]) -> usize
     let later = reader::length_field(file) + 4 * states as u64;
     let weights = put_header(file, out, later, 2);
     let rewards = put_weights(out, weights, states);
-    writing::put_word(out, rewards, &file[13..])
+    writing::put_word(out, rewards, &file[reader::HEADER..])
 }
 
 // A version 2 file in version 1: without its weights, and the rest as the file has it.
@@ -77,7 +75,7 @@ fn put_version_1(file: &[u8], out: &mut [u8]) -> usize
     let states = reader::state_count(file);
     let later = reader::length_field(file) - 4 * states as u64;
     let rewards = put_header(file, out, later, 1);
-    writing::put_word(out, rewards, &file[13 + 4 * states..])
+    writing::put_word(out, rewards, &file[reader::HEADER + 4 * states..])
 }
 
 // The file, which is to be of version 1, in version 2: the count of its bytes, or the number of the first row

@@ -16,7 +16,7 @@ use Rattle.definitions.specs.Series.{levelAt, levelsAfter, blocksAfter}
 use Rattle.definitions.specs.Remainders.{remaindersOf}
 use Rattle.definitions.specs.Sheet.{digit, digits, places, decimal, figure, label, figureLine, figureLines, levelLine, sheetOf, lentCells, sheet, printedSheet}
 use Rattle.definitions.specs.Written.{written, fileFor, countOf, bytesAfter}
-use Rattle.definitions.specs.Fields.{Fields, numbersAt, wordsOf, fieldsOf, fileOf}
+use Rattle.definitions.specs.Fields.{numbersAt, wordsOf, fieldsOf, fileOf}
 use Rattle.definitions.specs.Convert.{inVersion2, inVersion1, elsewhere, toVersion2, toVersion1}
 use Rattle.definitions.specs.HandChecked.{fileA, fileB, sheetB}
 

@@ -5,6 +5,9 @@
 // ONE: 10^12 ticks.
 pub const ONE: u64 = 1_000_000_000_000;
 
+// The weights of a starting distribution sum to this: all weight, in millionths.
+pub const ALL_WEIGHT: u64 = 1_000_000;
+
 // A list has at most this many times.
 pub const MOST_TIMES: usize = 8;
 

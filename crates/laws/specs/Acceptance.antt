@@ -12,7 +12,7 @@ use borrow.Author.Tests.{ltb-true, ltb-false, leb-false, eqb-true, eqb-false, no
 use Rattle.definitions.specs.Sums.{sum, largest, anyAbove}
 use Rattle.definitions.specs.File.{lengthField, version, stateCount, highestMoment, toleranceField, timeField, distributions, rewardField}
 use Rattle.definitions.specs.Chain.{Model, modelOf, atTime, rowSum, uniformRate, maxReward, jumpMillionths, chainOf}
-use Rattle.definitions.specs.Rules.{accepted, Rows, fittingLength, framing, misweighted, startsAtZero, quantities, fallsUpTo, listing, lastTime, jumps, room, blockSize, fileRows, rows, seriesRows, firstHeld, judgedBy, fileJudgement, judgement, seriesJudgement}
+use Rattle.definitions.specs.Rules.{accepted, Rows, fittingLength, framing, startsAtZero, quantities, fallsUpTo, listing, lastTime, jumps, room, blockSize, fileRows, rows, seriesRows, firstHeld, judgedBy, fileJudgement, judgement, seriesJudgement}
 use Rattle.definitions.specs.Series.{modelAt}
 use Rattle.laws.specs.SumLaws.{any-largest}
 use Rattle.laws.specs.RuleLaws.{andThen, in-parts, NoneHold, none-hold, accepted-value, none-in-parts}
@@ -80,7 +80,7 @@ pub record AcceptedFile (s : List ℕ) (cells : ℕ) : Type 0 where
 
 -- the rows 1 to 6, read the other way
 module _ (low high : ℕ) (s : List ℕ) (row : NoneHold (framing low high s)) where
-  pub counted-by : lengthField s ≡ length s - 2
+  counted-by : lengthField s ≡ length s - 2
   unfolding framing
   counted-by = held-equal (lengthField s) (length s - 2) (row .1 .0)
 
@@ -97,13 +97,13 @@ module _ (low high : ℕ) (s : List ℕ) (row : NoneHold (framing low high s)) w
         size = omega (arith, counted-by);
       }
 
-  pub version-by : (low ≤ version s) × (version s ≤ high)
+  version-by : (low ≤ version s) × (version s ≤ high)
   unfolding framing
   version-by =
       let both = neither (ltb (version s) low) (ltb high (version s)) (row .1 .1 .0) in
       (ltb-false (version s) low (both .0), ltb-false high (version s) (both .1))
 
-  pub moments-by : (1 ≤ highestMoment s) × (highestMoment s ≤ 8)
+  moments-by : (1 ≤ highestMoment s) × (highestMoment s ≤ 8)
   unfolding framing
   moments-by = in-range (highestMoment s) 8 (row .1 .1 .1 .1 .0)
 

@@ -28,7 +28,7 @@ use Rattle.laws.specs.WrittenLaws.{stopped-by-table, stopped-by-room, is
 use Rattle.laws.specs.WordLaws.{words-first}
 use Rattle.laws.specs.StartLaws.{start-of-one}
 use Rattle.laws.specs.FieldLaws.{Whole, numbers-in-version, bytes-in-version, file-of-fields, Fits, length-file}
-use Rattle.laws.specs.MovedLaws.{startingWith, Carried, in-version-fits, carried}
+use Rattle.laws.specs.MovedLaws.{Carried, in-version-fits, carried}
 
 -- the bytes of so many zeros
 words-zeros : (n : ℕ) → wordsOf (replicate n 0) ≡ replicate (4 * n) 0
@@ -147,7 +147,7 @@ module _ (s : List ℕ) (bytes : (i : ℕ) → getD s i 0 < 256) where
     told-there : Carried s there 2 (onFirst M)
     told-there = carried s whole-1 2 (onFirst M) fits-there
 
-    pub length-there : length (movedTo2 s) ≡ length s + 4 * M
+    length-there : length (movedTo2 s) ≡ length s + 4 * M
     length-there = ap (length {A = ℕ}) is-there ∙ omega (arith, length-file (inVersion 2 (onFirst M) (fieldsOf s)), numbers-in-version s whole-1 2 (onFirst M), first-of-all, whole-1 .size, none-held)
 
     -- its bytes: the new length, the version, bytes 3 to 12 as they were, the weights, and the rest as it was
@@ -163,12 +163,6 @@ module _ (s : List ℕ) (bytes : (i : ℕ) → getD s i 0 < 256) where
 
         longer : 4 * (length (onFirst M) + M * M) + 11 ≡ lengthField s + 4 * M
         longer = omega (arith, first-of-all, whole-1 .size, whole-1 .counted, none-held)
-
-    -- its model is that of s, with one starting distribution
-    pub model-there : modelOf (movedTo2 s) ≡ startingWith (modelOf s) 1 (weightField (movedTo2 s))
-    model-there =
-        subst (λ (x : List ℕ). modelOf x ≡ startingWith (modelOf s) 1 (weightField x)) (sym is-there)
-        (told-there .model ∙ ap (λ (d : ℕ). startingWith (modelOf s) d (weightField there)) (told-there .distributed))
 
     -- its weights
     weight-there : (i : ℕ) → i < M → weightField there i ≡ getD (onFirst M) i 0
@@ -254,7 +248,7 @@ module _ (s : List ℕ) (bytes : (i : ℕ) → getD s i 0 < 256) where
     told-back : Carried s back 1 []
     told-back = carried s whole-2 1 [] fits-back
 
-    pub length-back : length (movedTo1 s) + 4 * M ≡ length s
+    length-back : length (movedTo1 s) + 4 * M ≡ length s
     length-back = ap (λ (l : List ℕ). length l + 4 * M) is-back ∙ omega (arith, length-file (inVersion 1 [] (fieldsOf s)), numbers-in-version s whole-2 1 [], whole-2 .size, all-held)
 
     -- its bytes: the new length, the version, bytes 3 to 12 as they were, and what follows the weights as it was
@@ -277,12 +271,6 @@ module _ (s : List ℕ) (bytes : (i : ℕ) → getD s i 0 < 256) where
 
         no-words : wordsOf [] ≡ []
         no-words = unfold wordsOf in refl
-
-    -- its model is that of s, without one
-    pub model-back : modelOf (movedTo1 s) ≡ startingWith (modelOf s) 0 (weightField (movedTo1 s))
-    model-back =
-        subst (λ (x : List ℕ). modelOf x ≡ startingWith (modelOf s) 0 (weightField x)) (sym is-back)
-        (told-back .model ∙ ap (λ (d : ℕ). startingWith (modelOf s) d (weightField back)) (told-back .distributed))
 
     weighed-back : misweighted (modelOf back) ≡ false
     weighed-back = no-start (modelOf back) (told-back .distributed)
@@ -370,7 +358,7 @@ module _ (s : List ℕ) (bytes : (i : ℕ) → getD s i 0 < 256) (lent : ℕ) wh
 -- "there and back returns the same bytes": of every answer of the calls
 module _ (s : List ℕ) (bytes : (i : ℕ) → getD s i 0 < 256) (lent : ℕ) where
   -- to version 2 and back
-  pub there-and-back-1 : (t : List ℕ) → toVersion2 s lent ≡ accepted t → Moved s t toVersion1
+  there-and-back-1 : (t : List ℕ) → toVersion2 s lent ≡ accepted t → Moved s t toVersion1
   unfolding toVersion2 fileJudgement
   there-and-back-1 t h =
       let written = was-written (fileRows 1 1 s) (movedTo2 s) lent t h in
@@ -378,7 +366,7 @@ module _ (s : List ℕ) (bytes : (i : ℕ) → getD s i 0 < 256) (lent : ℕ) wh
       subst (λ (x : List ℕ). Moved s x toVersion1) (sym (is-there s bytes passed) ∙ written .1) (moved-there s bytes passed)
 
   -- to version 1 and back
-  pub there-and-back-2 : (t : List ℕ) → toVersion1 s lent ≡ accepted t → Moved s t toVersion2
+  there-and-back-2 : (t : List ℕ) → toVersion1 s lent ≡ accepted t → Moved s t toVersion2
   unfolding toVersion1 fileJudgement
   there-and-back-2 t h =
       let written = was-written (fileRows 2 2 s ++ elsewhere (modelOf s)) (movedTo1 s) lent t h in

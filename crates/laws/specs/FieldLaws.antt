@@ -43,7 +43,7 @@ module _ (s : List ℕ) (whole : Whole s) where
       start = omega arith
 
   -- how many there are
-  pub length-rest : length (fieldsOf s .rewards ++ fieldsOf s .rates) ≡ M * M
+  length-rest : length (fieldsOf s .rewards ++ fieldsOf s .rates) ≡ M * M
   length-rest = ap (length {A = ℕ}) numbers-rest ∙ length-numbers s (rewardsAt s) (M + M * (M - 1)) ∙ square M (whole .states-min)
 
   -- their bytes are those from the rewards on

@@ -3,7 +3,7 @@
 use Prim.Native.Nat.{ℕ, zero, suc, _+_, _*_, _/_, _≤_, _<_}
 use native.Mathlib.Omega.{arith}
 use native.Mathlib.Nat.{mul-pos, mul-le-mul-left, mul-le-mul-right, le-of-mul-le-mul-right}
-use mathlib.Core.Path.{_≡_, refl, sym, _∙_, ap, ap₂}
+use mathlib.Core.Path.{_≡_, ap, ap₂}
 use Rattle.definitions.specs.Sums.{sum}
 use Rattle.definitions.specs.Chain.{Model}
 use Rattle.definitions.specs.Vectors.{ONE}
@@ -17,7 +17,7 @@ use Rattle.laws.specs.SumLaws.{sum-same, sum-mono, sum-times, sum-single
 
 module _ (M : ℕ) (a p : ℕ → ℕ) where
   -- with all weight on one state the mean is that state's number
-  pub all-on-one : (i : ℕ) → i < M → a i ≡ MILLION → ((j : ℕ) → j < M → (j ≡ i → ⊥) → a j ≡ 0) → startMean M a p ≡ p i
+  all-on-one : (i : ℕ) → i < M → a i ≡ MILLION → ((j : ℕ) → j < M → (j ≡ i → ⊥) → a j ≡ 0) → startMean M a p ≡ p i
   unfolding startMean
   all-on-one i l full others =
       let single = sum-single M i (λ j. a j * p j) l (λ j b other. rw (others j b other) (omega arith)) in

@@ -77,7 +77,7 @@ unfolding numbersAt firsts
 one-number s at = let here : at + 4 * 0 ≡ at = omega arith in ap (λ (k : ℕ). big 4 s k ∷ []) here
 
 -- the first number, and the later ones
-pub numbers-first : (s : List ℕ) (at n : ℕ) → numbersAt s at (suc n) ≡ big 4 s at ∷ numbersAt s (at + 4) n
+numbers-first : (s : List ℕ) (at n : ℕ) → numbersAt s at (suc n) ≡ big 4 s at ∷ numbersAt s (at + 4) n
 numbers-first s at n =
     let more : suc n ≡ 1 + n = omega arith in
     ap (numbersAt s at) more ∙ numbers-further s at 1 n ∙ ap (λ (l : List ℕ). l ++ numbersAt s (at + 4) n) (one-number s at)

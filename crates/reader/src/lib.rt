@@ -23,7 +23,7 @@ const LENGTH_AT: usize = 0;
 
 const VERSION_AT: usize = 2;
 
-const STATES_AT: usize = 3;
+pub const STATES_AT: usize = 3;
 
 const HIGHEST_AT: usize = 4;
 
@@ -31,7 +31,10 @@ const TOLERANCE_AT: usize = 5;
 
 const TIME_AT: usize = 9;
 
-const WEIGHTS_AT: usize = 13;
+// The header's bytes. Starting weights, where there are some, follow it.
+pub const HEADER: usize = 13;
+
+const WEIGHTS_AT: usize = HEADER;
 
 // 2. Numbers in a slice.
 

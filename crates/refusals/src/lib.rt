@@ -14,14 +14,11 @@ ghost use Rattle.definitions.specs.Chain.{modelOf, uniformRate};
 ghost use Rattle.definitions.specs.Rules.{outside, beyond, fittingLength, framing, misweighted, startsAtZero, quantities, fallsUpTo, listing, lastTime, jumps, room, blockSize, firstHeld, judgedBy, fileJudgement, judgement, seriesJudgement, verdict};
 ghost use Rattle.laws.specs.Acceptance.{Framed};
 ghost use Rattle.refusals.specs.Rated.{ratedAs};
+use definitions::ALL_WEIGHT;
 use definitions::Judgement;
 use definitions::MOST_TIMES;
 
-// The header's bytes, the sum of the starting weights, and the largest number that each row lets pass.
-
-const HEADER: usize = 13;
-
-const ALL_WEIGHT: u64 = 1_000_000;
+// The largest number that each row lets pass.
 
 const MOST_STATES: u64 = 64;
 
@@ -63,7 +60,7 @@ fn fitting_length(file: &[u8]) -> u64
 fn judge_framing(file: &[u8], low: u64, high: u64) -> Judgement
     ensures { λ r. ⌜ verdict r ≡ judgedBy (framing low high (now (file .entry))) ⌝ }
 {
-    if file.len() < HEADER {
+    if file.len() < reader::HEADER {
         return Judgement::Refused(1);
     }
     let length = reader::length_field(file);

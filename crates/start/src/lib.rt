@@ -12,9 +12,7 @@ ghost use Rattle.definitions.specs.Weights.{MILLION};
 ghost use Rattle.definitions.specs.Moment.{startMean};
 ghost use Rattle.laws.specs.ArrayLaws.{entryOf};
 ghost use Rattle.start.specs.Figures.{momentsOf, startTotal, startCell, Distribution, Moments, AllMoments};
-
-// The weights of a starting distribution sum to this.
-const MILLION: u64 = 1_000_000;
+use definitions::ALL_WEIGHT;
 
 // The start figure for the moment r + 1: the sum over the states of weight * moment by 1,000,000, whose remainder is
 // dropped.
@@ -26,7 +24,7 @@ fn figure(weights: &[u64; 64], states: usize, highest: usize, r: usize, block: &
     for i in 0..states {
         total += weights[i] * block[i * highest + r];
     }
-    total / MILLION
+    total / ALL_WEIGHT
 }
 
 // The start figures of one block, after its moments.

@@ -1,6 +1,6 @@
 -- The bytes of a number, the highest first, and runs of zeros. Assumes nothing.
-use mathlib.Core.Path.{_≡_, refl, sym, _∙_, ap}
-use mathlib.Core.List.{List, [], _∷_, _++_}
+use mathlib.Core.Path.{_≡_, refl, sym}
+use mathlib.Core.List.{[], _∷_, _++_}
 use Prim.Native.Nat.{ℕ, zero, suc, _+_, _*_, _/_, _%_, _^_, _-_, _<_}
 use native.Mathlib.Nat.{pow-suc, div-div-eq-div-mul}
 use native.Mathlib.Numerals.{add-one}

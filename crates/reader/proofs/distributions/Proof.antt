@@ -1,5 +1,4 @@
 -- `reader::distributions` meets its contract. Assumes nothing.
-use mathlib.Core.Path.{_≡_, sym, _∙_}
 use native.Mathlib.Omega.{arith}
 use borrow.Author.Needs.{needs}
 use Rattle.laws.specs.ChainLaws.{version-2, other-version}

@@ -1,6 +1,5 @@
 -- `reader::weights_of` meets its contract. Assumes nothing.
 use native.Mathlib.Omega.{arith}
-use borrow.Author.Needs.{needs}
 use Rattle.reader.specs.Framed.{rewards-room}
 use Rattle.reader.proofs.weights_of.Statement.{statement}
 use Rattle.reader.proofs.weights_of.Tie as tie

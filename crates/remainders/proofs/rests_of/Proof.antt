@@ -5,8 +5,7 @@ use native.Mathlib.Omega.{arith}
 use borrow.Author.Needs.{needs}
 use Rattle.definitions.specs.declared.Sizes.{Sizes}
 use Rattle.definitions.specs.File.{stateCount}
-use Rattle.definitions.specs.Chain.{Model, modelOf, chainOf, uniformRate, jumpMillionths}
-use Rattle.definitions.specs.Moment.{modelLevel}
+use Rattle.definitions.specs.Chain.{Model, modelOf, chainOf, uniformRate}
 use Rattle.laws.specs.ChainLaws.{square-max}
 use Rattle.laws.specs.ArrayLaws.{zeros}
 use Rattle.laws.specs.MomentLaws.{level-range}

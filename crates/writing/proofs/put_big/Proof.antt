@@ -1,6 +1,6 @@
 -- `writing::put_big` meets its contract: after i turns the i highest bytes stand there. Assumes nothing.
 use mathlib.Core.Path.{_≡_, refl}
-use Prim.Native.Nat.{_-_, _≤_, _/_, _%_, _^_}
+use Prim.Native.Nat.{_-_, _≤_, _/_, _^_}
 use native.Mathlib.Nat.{div-one}
 use native.Mathlib.Omega.{arith}
 use lib.ListN.{length}
