@@ -118,7 +118,8 @@ uint64_t kuldrepso_remainders(const uint8_t *file, size_t file_length, uint64_t 
  * out_length is below C.
  *
  * KULDREPSO_MOST_BYTES bytes are enough for every file. A caller owes what is owed to kuldrepso_calculate, here for two slices
- * of bytes: no pointer may be null, also where its count is 0; the two must not overlap; neither is longer than PTRDIFF_MAX. */
+ * of bytes: no pointer may be null, also where its count is 0; the two must not overlap; neither is longer than PTRDIFF_MAX.
+ * It takes less than 128 KB of stack. */
 uint64_t kuldrepso_to_version_2(const uint8_t *file, size_t file_length, uint8_t *out, size_t out_length);
 
 /* Moves a version 2 file whose weight is all on state 1 back to version 1: the file without its weights.
