@@ -9,6 +9,7 @@ use definitions::{Outcome, Series};
 
 mod definitions {
     pub const ONE: u64 = 1_000_000_000_000;
+    pub const ALL_WEIGHT: u64 = 1_000_000;
     pub const MOST_TIMES: usize = 8;
 
     pub enum Judgement {
@@ -50,7 +51,8 @@ mod reader {
     const HIGHEST_AT: usize = 4;
     const TOLERANCE_AT: usize = 5;
     const TIME_AT: usize = 9;
-    const WEIGHTS_AT: usize = 13;
+    pub const HEADER: usize = 13;
+    const WEIGHTS_AT: usize = HEADER;
 
     fn byte(file: &[u8], at: usize) -> u64 {
         file[at] as u64
@@ -154,9 +156,13 @@ mod reader {
         largest_of(&rewards, states)
     }
 
-    fn row_of(file: &[u8], i: usize) -> &[u8] {
+    fn row_at(file: &[u8], i: usize) -> usize {
         let states = state_count(file);
-        let at = rewards_at(file) + 4 * states + 4 * (states - 1) * i;
+        rewards_at(file) + 4 * states + 4 * (states - 1) * i
+    }
+
+    fn row_of(file: &[u8], i: usize) -> &[u8] {
+        let at = row_at(file, i);
         &file[at..]
     }
 
@@ -223,11 +229,9 @@ mod reader {
 }
 
 mod refusals {
-    use super::definitions::{Judgement, MOST_TIMES};
+    use super::definitions::{Judgement, ALL_WEIGHT, MOST_TIMES};
     use super::reader;
 
-    const HEADER: usize = 13;
-    const ALL_WEIGHT: u64 = 1_000_000;
     const MOST_STATES: u64 = 64;
     const MOST_MOMENTS: u64 = 8;
     const MOST_TOLERANCE: u64 = 100_000_000;
@@ -250,7 +254,7 @@ mod refusals {
     }
 
     fn judge_framing(file: &[u8], low: u64, high: u64) -> Judgement {
-        if file.len() < HEADER {
+        if file.len() < reader::HEADER {
             return Judgement::Refused(1);
         }
         let length = reader::length_field(file);
@@ -711,14 +715,14 @@ mod means {
 }
 
 mod start {
-    const MILLION: u64 = 1_000_000;
+    use super::definitions::ALL_WEIGHT;
 
     fn figure(weights: &[u64; 64], states: usize, highest: usize, r: usize, block: &[u64]) -> u64 {
         let mut total = 0;
         for i in 0..states {
             total += weights[i] * block[i * highest + r];
         }
-        total / MILLION
+        total / ALL_WEIGHT
     }
 
     fn put_figures(weights: &[u64; 64], states: usize, highest: usize, block: &mut [u64]) {

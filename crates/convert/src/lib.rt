@@ -107,6 +107,7 @@ pub fn to_version_1(file: &[u8], out: &mut [u8]) -> Written
     if let Judgement::Refused(row) = judgement {
         return Written::Refused(row);
     }
+    // Row 17 stands before row 13.
     let elsewhere = weight_elsewhere(file);
     let short = out.len() < file.len() - 4 * reader::state_count(file);
     if elsewhere {
