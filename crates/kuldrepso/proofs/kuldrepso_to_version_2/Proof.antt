@@ -1,5 +1,6 @@
 -- The plain number is that of the answer; the bytes, and what is promised of the moved file, are those of the call.
-use mathlib.Core.Path.{_∙_, ap}
+use mathlib.Core.Path.{ap}
+use native.Mathlib.Omega.{arith}
 use borrow.Author.Needs.{needs}
 use Rattle.kuldrepso.specs.Plain.{plainAnswer}
 use Rattle.kuldrepso.proofs.kuldrepso_to_version_2.Statement.{statement}
@@ -8,7 +9,7 @@ use Rattle.kuldrepso.proofs.kuldrepso_to_version_2.Tie as tie
 returns : tie.Need-returns
 returns c =
     let called = c .before .before .before .to-version-2 .ensures in
-    (c .plain .ensures ∙ ap plainAnswer (called .0), called .1)
+    (omega (arith, c .plain .ensures, ap plainAnswer (called .0)), called .1)
 
 pub kuldrepso-to-version-2-spec : {M : Type 1} → statement M
 kuldrepso-to-version-2-spec = tie.close (tie.spec (λ c κs. search needs) (λ c κs. search needs) (λ c. search needs) returns)
