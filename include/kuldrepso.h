@@ -1,8 +1,8 @@
 /* Moments of the accumulated reward of a repairable system, and their truncation level: document 01's
  * calculation, its last division rounded to the nearest tick (document 02, S-1), at one time or at several (S-3), what
- * its divisions leave over (S-4), and files with a starting distribution (S-5), for C. `./build kuldrepso` makes the
- * library, libkuldrepso.a (x86-64), and prints its path; it needs nothing but memcpy and memset. The contracts of its
- * calls are proved: crates/kuldrepso/src/lib.rt. */
+ * its divisions leave over (S-4), files with a starting distribution (S-5), and practice files (S-6), for C.
+ * `./build kuldrepso` makes the library, libkuldrepso.a (x86-64), and prints its path; it needs nothing but memcpy and
+ * memset. The contracts of its calls are proved: crates/kuldrepso/src/lib.rt. */
 #ifndef KULDREPSO_H
 #define KULDREPSO_H
 
@@ -17,7 +17,7 @@ extern "C" {
  * that was written before stays right. MAJOR rises, and MINOR starts again at 0, where such a program has to be looked
  * through: a call takes other parameters or answers something else, or a macro has another value. */
 #define KULDREPSO_VERSION_MAJOR 3
-#define KULDREPSO_VERSION_MINOR 0
+#define KULDREPSO_VERSION_MINOR 1
 
 /* An answer below this is an acceptance; any other is this and the number of a refusal. */
 #define KULDREPSO_REFUSED UINT64_C(1000000)
@@ -135,6 +135,27 @@ uint64_t kuldrepso_to_version_2(const uint8_t *file, size_t file_length, uint8_t
  *
  * There and back, by either call first, returns the same bytes. A caller owes what is owed to kuldrepso_to_version_2. */
 uint64_t kuldrepso_to_version_1(const uint8_t *file, size_t file_length, uint8_t *out, size_t out_length);
+
+/* Deals the practice file of a seed number with M = states and R = highest (document 02, S-6): a version 1 file with
+ * tolerance 10,000, whose time, rewards and rates are drawn from the stream of the seed number. The same three numbers
+ * give the same bytes.
+ *
+ * Answers
+ *   C                       the count of bytes of the file, 4 * M * M + 13, where no row of the table below holds. Then
+ *                           out[0] .. out[C - 1] hold the file, which kuldrepso_calculate accepts with M * R cells or more.
+ *                           Every byte from C on is as it was.
+ *   KULDREPSO_REFUSED + k   where row k is the first that holds. Every byte of out is as it was.
+ *
+ * The table, in its order: 4, states is 0 or above 64; 5, highest is 0 or above 8; 13, out_length is below C.
+ *
+ * The stream has 32 bits: next = previous * 1664525 + 1013904223, cut to 32 bits, and the seed number is the first
+ * "previous". A draw is the upper 16 bits after a step. The time is 1 plus the first draw over 4,096, down. Then each reward
+ * and each rate, in the order of the file, is one draw; the first reward is 1 more than its draw.
+ *
+ * Any states, highest and seed get an answer, UINT64_MAX too. KULDREPSO_MOST_BYTES bytes are enough for every file. A caller
+ * owes what is owed to kuldrepso_calculate, here for one slice of bytes: out may not be null, also where out_length is 0, and
+ * is not longer than PTRDIFF_MAX. It takes less than 128 KB of stack. */
+uint64_t kuldrepso_practice(uint64_t states, uint64_t highest, uint32_t seed, uint8_t *out, size_t out_length);
 
 #ifdef __cplusplus
 }
