@@ -46,7 +46,7 @@ pub data Maybe (A : Type 0) : Type 0 where
 
 -- the state, counted from 1, is outside 1 to M, n outside 1 to N or r outside 1 to R
 abbrev pub anyOutside : Model → ℕ → ℕ → ℕ → Bool
-anyOutside m state n r = outside state (m .states) || outside n (modelLevel m) || outside r (m .highest)
+anyOutside m state n r = outside 1 (m .states) state || outside 1 (modelLevel m) n || outside 1 (m .highest) r
 
 -- what a model gives: none where one of them is outside
 unfoldable pub restsOf : Model → ℕ → ℕ → ℕ → Maybe Rests

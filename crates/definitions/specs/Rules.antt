@@ -19,13 +19,16 @@ pub data Answer (A : Type 0) : Type 0 where
 abbrev pub Rows : Type 0
 Rows = List (ℕ × Bool)
 
--- a number that is not from 1 to most
-abbrev pub outside : ℕ → ℕ → Bool
-outside x most = eqb x 0 || ltb most x
-
 -- a number that is not from low to high
-abbrev pub beyond : ℕ → ℕ → ℕ → Bool
-beyond low high x = ltb x low || ltb high x
+abbrev pub outside : ℕ → ℕ → ℕ → Bool
+outside low high x = ltb x low || ltb high x
+
+-- rows 4 and 5, the dimensions: M and R
+abbrev pub dimensions : ℕ → ℕ → Rows
+dimensions M R =
+    (4, outside 1 64 M)
+    ∷ (5, outside 1 8 R)
+    ∷ []
 
 -- what the length field of a file holds: 4 × M × M + 11, and 4 × M for each starting distribution
 abbrev pub fittingLength : List ℕ → ℕ
@@ -36,11 +39,10 @@ unfoldable pub framing : ℕ → ℕ → List ℕ → Rows
 framing low high s =
     (1, ltb (length s) 13)
     ∷ (2, not (eqb (lengthField s) (length s - 2)))
-    ∷ (3, beyond low high (version s))
-    ∷ (4, outside (stateCount s) 64)
-    ∷ (5, outside (highestMoment s) 8)
-    ∷ (6, not (eqb (lengthField s) (fittingLength s)))
-    ∷ []
+    ∷ (3, outside low high (version s))
+    ∷ (dimensions (stateCount s) (highestMoment s)
+    ++ (6, not (eqb (lengthField s) (fittingLength s)))
+    ∷ [])
 
 -- whether a list of times starts with 0. One without a time does not.
 abbrev pub startsAtZero : List ℕ → Bool
@@ -55,7 +57,7 @@ misweighted m = ltb 0 (m .distributions) && not (eqb (sum (m .states) (m .start)
 -- (without one: an empty list)
 unfoldable pub quantities : Model → List ℕ → Rows
 quantities m times =
-    (7, outside (m .tolerance) 100000000)
+    (7, outside 1 100000000 (m .tolerance))
     ∷ (8, eqb (m .time) 0 || startsAtZero times)
     ∷ (16, misweighted m)
     ∷ (9, anyAbove 1000000 (m .states) (m .reward))
@@ -71,7 +73,7 @@ fallsUpTo (suc n) times = fallsUpTo n times || leb (getD times (suc n) 0) (getD 
 -- rows 14 and 15, the list of times: how many there are, and that each is above the one before it
 unfoldable pub listing : List ℕ → Rows
 listing times =
-    (14, outside (length times) 8)
+    (14, outside 1 8 (length times))
     ∷ (15, fallsUpTo (length times - 1) times)
     ∷ []
 

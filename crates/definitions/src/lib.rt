@@ -67,3 +67,12 @@ pub struct Sizes {
     pub rate: u64,
     pub largest: u64,
 }
+
+// A file's header but for its length: version, M, R, tolerance in billionths and time in hours.
+pub struct Header {
+    pub version: u8,
+    pub states: u8,
+    pub highest: u8,
+    pub tolerance: u32,
+    pub time: u32,
+}

@@ -88,7 +88,7 @@ module _ (low high : ℕ) (s : List ℕ) (row : NoneHold (framing low high s)) w
   unfolding framing
   framed-by =
       let row4 = row .1 .1 .1 in
-      let states = in-range (stateCount s) 64 (row4 .0) in
+      let states = in-range 1 64 (stateCount s) (row4 .0) in
       let header : 13 ≤ length s = ltb-false (length s) 13 (row .0) in
       let sized : lengthField s ≡ fittingLength s = held-equal (lengthField s) (fittingLength s) (row4 .1 .1 .0) in
       record {
@@ -99,13 +99,11 @@ module _ (low high : ℕ) (s : List ℕ) (row : NoneHold (framing low high s)) w
 
   version-by : (low ≤ version s) × (version s ≤ high)
   unfolding framing
-  version-by =
-      let both = neither (ltb (version s) low) (ltb high (version s)) (row .1 .1 .0) in
-      (ltb-false (version s) low (both .0), ltb-false high (version s) (both .1))
+  version-by = in-range low high (version s) (row .1 .1 .0)
 
   moments-by : (1 ≤ highestMoment s) × (highestMoment s ≤ 8)
   unfolding framing
-  moments-by = in-range (highestMoment s) 8 (row .1 .1 .1 .1 .0)
+  moments-by = in-range 1 8 (highestMoment s) (row .1 .1 .1 .1 .0)
 
 -- the rows 7 to 12 and 16, with a time T that is not 0 and not too late
 pub limits-by : (low high : ℕ) (s times : List ℕ) (T : ℕ) → NoneHold (framing low high s) → NoneHold (quantities (modelOf s) times) → 1 ≤ T → uniformRate (modelOf s) * T ≤ 256000000 → WithinLimits (atTime (modelOf s) T)
@@ -115,7 +113,7 @@ limits-by low high s times T first row nonzero early =
     let highest = moments-by low high s first in
     let row16 = row .1 .1 in
     let row9 = row16 .1 in
-    let tolerance = in-range (toleranceField s) 100000000 (row .0) in
+    let tolerance = in-range 1 100000000 (toleranceField s) (row .0) in
     let sums : largest (stateCount s) (rowSum (modelOf s)) ≤ 10000000 = none-above 10000000 (stateCount s) (rowSum (modelOf s)) (row9 .1 .1 .0) in
     record {
       states-max = f .states-max;
@@ -283,7 +281,7 @@ time-within s times levels cells none k h =
 pub accepted-series : (s times : List ℕ) (levels cells : ℕ) → seriesJudgement s times levels cells ≡ accepted tt → AcceptedSeries s times levels cells
 accepted-series s times levels cells passed =
     let none = series-rows s times levels cells passed in
-    let count : (1 ≤ length times) × (length times ≤ 8) = unfold listing in in-range (length times) 8 (none .list .0) in
+    let count : (1 ≤ length times) × (length times ≤ 8) = unfold listing in in-range 1 8 (length times) (none .list .0) in
     record {
       framed = framed-by 1 2 s (none .frame);
       count-min = count .0;

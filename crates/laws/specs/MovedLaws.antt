@@ -18,6 +18,7 @@ use Rattle.definitions.specs.Fields.{Fields, inVersion, numbersAt, wordsOf, fie
 use Rattle.laws.specs.ByteLaws.{big-drop}
 use Rattle.laws.specs.ListLaws.{getD-firsts}
 use Rattle.laws.specs.RuleLaws.{NoneHold, none-in-parts, none-together, agree}
+use Rattle.laws.specs.RowLaws.{is-inside}
 use Rattle.laws.specs.FieldLaws.{Whole, words-rest, numbers-in-version, Fits, version-of-file, states-of-file, highest-of-file, fields-of-file, whole-file, fields-fit}
 
 -- two lists that are alike from a place of each on hold the same numbers from there on
@@ -146,10 +147,7 @@ module _ (s : List ℕ) (whole : Whole s) (v : ℕ) (w : List ℕ) where
     unfolding framing
     framing-passes a b oldest newest old new row =
         let whole-t = whole-file f fits in
-        (le-ltb (length t) 13 (omega (arith, whole-t .size)), (agree (lengthField t) (length t - 2) (whole-t .counted), (admitted, (rw states-same (row .1 .1 .1 .0), (rw highest-same (row .1 .1 .1 .1 .0), (agree (lengthField t) (fittingLength t) (omega (arith, whole-t .size, whole-t .counted)), tt))))))
-      where
-        admitted : (ltb (version t) oldest || ltb newest (version t)) ≡ false
-        admitted = rw (version-of-file f, le-ltb v oldest old, le-ltb newest v new) refl
+        (le-ltb (length t) 13 (omega (arith, whole-t .size)), (agree (lengthField t) (length t - 2) (whole-t .counted), (rw (version-of-file f) (is-inside oldest newest v old new), (rw states-same (row .1 .1 .1 .0), (rw highest-same (row .1 .1 .1 .1 .0), (agree (lengthField t) (fittingLength t) (omega (arith, whole-t .size, whole-t .counted)), tt))))))
 
     -- rows 7, 8, 16 and 9 to 11
     quantities-pass : misweighted (modelOf t) ≡ false → NoneHold (quantities (modelOf s) []) → NoneHold (quantities (modelOf t) [])

@@ -85,11 +85,11 @@ pub record Inside (m : Model) (state n r : ℕ) : Type 0 where
 
 pub inside : (m : Model) (state n r : ℕ) → anyOutside m state n r ≡ false → Inside m state n r
 inside m state n r h =
-    let two = neither (outside state (m .states) || outside n (modelLevel m)) (outside r (m .highest)) h in
-    let one = neither (outside state (m .states)) (outside n (modelLevel m)) (two .0) in
-    let states = in-range state (m .states) (one .0) in
-    let jumps = in-range n (modelLevel m) (one .1) in
-    let moments = in-range r (m .highest) (two .1) in
+    let two = neither (outside 1 (m .states) state || outside 1 (modelLevel m) n) (outside 1 (m .highest) r) h in
+    let one = neither (outside 1 (m .states) state) (outside 1 (modelLevel m) n) (two .0) in
+    let states = in-range 1 (m .states) state (one .0) in
+    let jumps = in-range 1 (modelLevel m) n (one .1) in
+    let moments = in-range 1 (m .highest) r (two .1) in
     record {
       state-min = states .0;
       state-max = states .1;

@@ -1,4 +1,4 @@
--- The tests of 1 to a limit, and single rows of the tables, from the numbers that they compare: 8 and 15, of a list of times, 16, and 9 to 13.
+-- The test of a number's limits, and single rows of the tables, from the numbers that they compare: 8 and 15, of a list of times, 16, and 9 to 13.
 use Prim.Native.Nat.{ℕ, zero, suc, _-_, _≤_, _<_}
 use native.Mathlib.Omega.{arith}
 use native.Mathlib.Decide.{decLe}
@@ -22,17 +22,18 @@ neither true false h = absurd (let z : _≡_ {A = ℕ} 0 1 = cc in omega arith)
 neither false true h = absurd (let z : _≡_ {A = ℕ} 0 1 = cc in omega arith)
 neither false false h = (refl, refl)
 
--- a number that is neither 0 nor above k
-pub in-range : (x k : ℕ) → outside x k ≡ false → (1 ≤ x) × (x ≤ k)
-in-range x k h =
-    let both : (eqb x 0 ≡ false) × (ltb k x ≡ false) = neither (eqb x 0) (ltb k x) h in
-    let nonzero : x ≡ 0 → ⊥ = eqb-false x 0 (both .0) in
-    let small : x ≤ k = ltb-false k x (both .1) in
-    (omega (arith, nonzero), small)
+-- a number that is not outside is from low to high, and the other way about
+pub in-range : (low high x : ℕ) → outside low high x ≡ false → (low ≤ x) × (x ≤ high)
+in-range low high x h =
+    let both = neither (ltb x low) (ltb high x) h in
+    (ltb-false x low (both .0), ltb-false high x (both .1))
 
--- a test of 1 to most: with an equal limit it says the same
-pub same-limit : {most' : ℕ} (x most : ℕ) → most' ≡ most → outside x most' ≡ outside x most
-same-limit x most e = ap (outside x) e
+pub is-inside : (low high x : ℕ) → low ≤ x → x ≤ high → outside low high x ≡ false
+is-inside low high x l h = ap₂ _||_ (le-ltb x low l) (le-ltb high x h)
+
+-- with an equal limit the test says the same
+pub same-limit : {high' : ℕ} (low high x : ℕ) → high' ≡ high → outside low high' x ≡ outside low high x
+same-limit low high x e = ap (λ (k : ℕ). outside low k x) e
 
 -- row 8: a list without a time, and one with a first time
 pub without-a-time : (t : List ℕ) → length t ≡ 0 → startsAtZero t ≡ false
