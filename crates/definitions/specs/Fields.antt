@@ -2,6 +2,7 @@
 use Prim.Native.Nat.{ℕ, _+_, _*_, _-_}
 use mathlib.Core.List.{List, [], _∷_, _++_}
 use lib.ListN.{length}
+use Rattle.definitions.specs.declared.Header.{Header}
 use Rattle.definitions.specs.Sums.{firsts}
 use Rattle.definitions.specs.Bytes.{big, bytesOf}
 use Rattle.definitions.specs.File.{version, stateCount, highestMoment, toleranceField, timeField, distributions, weightsAt, rewardsAt, rowAt}
@@ -58,11 +59,13 @@ fieldsOf s =
 abbrev pub numbersOf : Fields → List ℕ
 numbersOf f = f .weights ++ (f .rewards ++ f .rates)
 
--- the file that holds the fields: the length of all that follows its own two bytes, 11 bytes of header, and the numbers
+-- a header, where so many numbers follow: the length of all that stands after its own two bytes, version, M, R, ε and T
+unfoldable pub headed : Header → ℕ → List ℕ
+headed h count = bytesOf 2 (4 * count + 11) ++ ((h .version ∷ h .states ∷ h .highest ∷ []) ++ (bytesOf 4 (h .tolerance) ++ bytesOf 4 (h .time)))
+
+abbrev pub headerOf : Fields → Header
+headerOf f = record { version = f .version; states = f .states; highest = f .highest; tolerance = f .tolerance; time = f .time }
+
+-- the file that holds the fields: 13 bytes of header, and the numbers
 unfoldable pub fileOf : Fields → List ℕ
-fileOf f =
-    bytesOf 2 (4 * length (numbersOf f) + 11)
-    ++ ((f .version ∷ f .states ∷ f .highest ∷ [])
-    ++ (bytesOf 4 (f .tolerance)
-    ++ (bytesOf 4 (f .time)
-    ++ wordsOf (numbersOf f))))
+fileOf f = headed (headerOf f) (length (numbersOf f)) ++ wordsOf (numbersOf f)

@@ -6,7 +6,7 @@ use lib.ListN.{length}
 use Rattle.definitions.specs.Sums.{firsts}
 use Rattle.definitions.specs.Bytes.{bytesOf}
 use Rattle.definitions.specs.Rules.{Answer, accepted, refused, room, firstHeld}
-use Rattle.definitions.specs.Fields.{wordsOf, fileOf}
+use Rattle.definitions.specs.Fields.{wordsOf, headed, fileOf}
 use Rattle.definitions.specs.Written.{written, fileFor, bytesAfter}
 use Rattle.definitions.specs.Practice.{next, stream, upper, draw, practiceFields, practiceFile, practice}
 
@@ -61,12 +61,12 @@ asked =
     ∷ []
 
 pub all-answered : AllAnswered asked
-unfolding next stream upper draw firsts bytesOf wordsOf fileOf room firstHeld fileFor practiceFields practiceFile practice
+unfolding next stream upper draw firsts bytesOf wordsOf headed fileOf room firstHeld fileFor practiceFields practiceFile practice
 all-answered = (refl, (refl, (refl, (refl, (refl, (refl, (refl, (refl, (refl, tt)))))))))
 
 -- what is lent past the file stays, and a refusal writes nothing
 pub bytes-after-dealing :
     (bytesAfter (practice 1 1 0 18) (firsts 18 (λ k. 100 + k)) ≡ 0x00 ∷ 0x0F ∷ 0x01 ∷ 0x01 ∷ 0x01 ∷ 0x00 ∷ 0x00 ∷ 0x27 ∷ 0x10 ∷ 0x00 ∷ 0x00 ∷ 0x00 ∷ 0x04 ∷ 0x00 ∷ 0x00 ∷ 0x47 ∷ 0x51 ∷ 117 ∷ [])
     × (bytesAfter (practice 1 9 0 2) (7 ∷ 7 ∷ []) ≡ 7 ∷ 7 ∷ [])
-unfolding next stream upper draw firsts bytesOf wordsOf fileOf room firstHeld written fileFor practiceFields practiceFile practice
+unfolding next stream upper draw firsts bytesOf wordsOf headed fileOf room firstHeld written fileFor practiceFields practiceFile practice
 bytes-after-dealing = (refl, refl)

@@ -16,7 +16,7 @@ use Rattle.definitions.specs.Series.{levelAt, levelsAfter, blocksAfter}
 use Rattle.definitions.specs.Remainders.{remaindersOf}
 use Rattle.definitions.specs.Sheet.{digit, digits, places, decimal, figure, label, figureLine, figureLines, levelLine, sheetOf, lentCells, sheet, printedSheet}
 use Rattle.definitions.specs.Written.{written, fileFor, countOf, bytesAfter}
-use Rattle.definitions.specs.Fields.{numbersAt, wordsOf, fieldsOf, fileOf}
+use Rattle.definitions.specs.Fields.{numbersAt, wordsOf, fieldsOf, headed, fileOf}
 use Rattle.definitions.specs.Convert.{inVersion2, inVersion1, elsewhere, toVersion2, toVersion1}
 use Rattle.definitions.specs.HandChecked.{fileA, fileB, sheetB}
 
@@ -96,17 +96,17 @@ movedB =
 
 -- there, lent just enough, and back
 pub there-and-back : (toVersion2 fileB 37 ≡ accepted movedB) × (toVersion1 movedB 29 ≡ accepted fileB)
-unfolding sum largest anyAbove firsts big bytesOf distributions jumpRate rowSum uniformRate framing quantities jumps room firstHeld fileFor numbersAt wordsOf fieldsOf fileOf inVersion2 inVersion1 elsewhere toVersion2 toVersion1
+unfolding sum largest anyAbove firsts big bytesOf distributions jumpRate rowSum uniformRate framing quantities jumps room firstHeld fileFor numbersAt wordsOf fieldsOf headed fileOf inVersion2 inVersion1 elsewhere toVersion2 toVersion1
 there-and-back = (refl, refl)
 
 -- what stops a move there: version 2, a reward above its limit, a byte too few
 pub stopped-there : (toVersion2 movedB 99 ≡ refused 3) × (toVersion2 (set fileB 13 1) 0 ≡ refused 9) × (toVersion2 fileB 36 ≡ refused 13)
-unfolding sum largest anyAbove firsts big bytesOf distributions jumpRate rowSum uniformRate framing quantities jumps room firstHeld fileFor numbersAt wordsOf fieldsOf fileOf inVersion2 toVersion2
+unfolding sum largest anyAbove firsts big bytesOf distributions jumpRate rowSum uniformRate framing quantities jumps room firstHeld fileFor numbersAt wordsOf fieldsOf headed fileOf inVersion2 toVersion2
 stopped-there = (refl, refl, refl)
 
 -- and back: version 1; a weight on state 2, with E × T above its limit too, and with a byte too few; a byte too few alone
 pub stopped-back : (toVersion1 fileB 99 ≡ refused 3) × (toVersion1 (set (set startB 11 1) 12 1) 99 ≡ refused 12) × (toVersion1 startB 28 ≡ refused 17) × (toVersion1 movedB 28 ≡ refused 13)
-unfolding sum largest anyAbove firsts big bytesOf distributions jumpRate rowSum uniformRate framing quantities jumps room firstHeld fileFor numbersAt wordsOf fieldsOf fileOf inVersion1 elsewhere toVersion1
+unfolding sum largest anyAbove firsts big bytesOf distributions jumpRate rowSum uniformRate framing quantities jumps room firstHeld fileFor numbersAt wordsOf fieldsOf headed fileOf inVersion1 elsewhere toVersion1
 stopped-back = (refl, refl, refl, refl)
 
 -- the count, and the bytes after a call: those past the file stay, and a refusal writes none

@@ -10,7 +10,7 @@ use lib.Dec.{eqb}
 use Rattle.definitions.specs.Sums.{firsts, pick}
 use Rattle.definitions.specs.Bytes.{bytesOf}
 use Rattle.definitions.specs.File.{lengthField, version, stateCount, highestMoment, toleranceField, timeField, distributions, rewardsAt}
-use Rattle.definitions.specs.Fields.{Fields, inVersion, numbersAt, wordsOf, fieldsOf, numbersOf, fileOf}
+use Rattle.definitions.specs.Fields.{Fields, inVersion, numbersAt, wordsOf, fieldsOf, numbersOf, headed, headerOf, fileOf}
 use Rattle.laws.specs.WordLaws.{part-listed, bytes-listed, bytes-of-big, big-of-bytes, big-below, length-numbers, numbers-further, words-append, length-words, words-of-numbers, numbers-of-words, below-append, bytes-below, words-below, numbers-below}
 
 -- M rewards and M rows of M − 1 rates are M × M numbers
@@ -69,9 +69,9 @@ module _ (s : List ℕ) (whole : Whole s) where
 
     -- its bytes: the length, the version, bytes 3 to 12 of s, the weights, and the bytes of s from the rewards on
     pub bytes-in-version : fileOf (inVersion v w (fieldsOf s)) ≡ bytesOf 2 (4 * (length w + M * M) + 11) ++ (v ∷ []) ++ take 10 (drop 3 s) ++ wordsOf w ++ drop (rewardsAt s) s
-    unfolding fileOf fieldsOf
+    unfolding headed fileOf fieldsOf
     bytes-in-version =
-        ap₂ (λ (n : ℕ) (l : List ℕ). bytesOf 2 (4 * n + 11) ++ ((v ∷ stateCount s ∷ highestMoment s ∷ []) ++ (bytesOf 4 (toleranceField s) ++ (bytesOf 4 (timeField s) ++ l)))) numbers-in-version words-in-version
+        ap₂ (λ (n : ℕ) (l : List ℕ). (bytesOf 2 (4 * n + 11) ++ ((v ∷ stateCount s ∷ highestMoment s ∷ []) ++ (bytesOf 4 (toleranceField s) ++ bytesOf 4 (timeField s)))) ++ l) numbers-in-version words-in-version
         ∙ rw (← middle-bytes) (simp append-assoc)
 
   -- the file that holds the fields of a file is that file
@@ -103,40 +103,40 @@ pub record Fits (f : Fields) : Type 0 where
   pub length-fits : 4 * length (numbersOf f) + 11 < 2 ^ 16
 
 -- the header's 13 bytes
-headerOf : Fields → List ℕ
-headerOf f = bytesOf 2 (4 * length (numbersOf f) + 11) ++ ((f .version ∷ f .states ∷ f .highest ∷ []) ++ (bytesOf 4 (f .tolerance) ++ bytesOf 4 (f .time)))
+abbrev front : Fields → List ℕ
+front f = headed (headerOf f) (length (numbersOf f))
 
 module _ (f : Fields) where
-  length-header : length (headerOf f) ≡ 13
-  unfolding headerOf bytesOf
+  length-header : length (front f) ≡ 13
+  unfolding headed bytesOf
   length-header = refl
 
-  header-then-words : fileOf f ≡ headerOf f ++ wordsOf (numbersOf f)
-  unfolding headerOf fileOf bytesOf
+  header-then-words : fileOf f ≡ front f ++ wordsOf (numbersOf f)
+  unfolding front fileOf bytesOf
   header-then-words = refl
 
   -- the file in its parts
-  file-in-parts : fileOf f ≡ headerOf f ++ (wordsOf (f .weights) ++ (wordsOf (f .rewards) ++ wordsOf (f .rates)))
+  file-in-parts : fileOf f ≡ front f ++ (wordsOf (f .weights) ++ (wordsOf (f .rewards) ++ wordsOf (f .rates)))
   file-in-parts =
       header-then-words
-      ∙ ap (λ (l : List ℕ). headerOf f ++ l) (words-append (f .weights) (f .rewards ++ f .rates))
-      ∙ ap (λ (l : List ℕ). headerOf f ++ (wordsOf (f .weights) ++ l)) (words-append (f .rewards) (f .rates))
+      ∙ ap (λ (l : List ℕ). front f ++ l) (words-append (f .weights) (f .rewards ++ f .rates))
+      ∙ ap (λ (l : List ℕ). front f ++ (wordsOf (f .weights) ++ l)) (words-append (f .rewards) (f .rates))
 
   -- how long it is
   pub length-file : length (fileOf f) ≡ 4 * length (numbersOf f) + 13
-  length-file = omega (arith, ap (length {A = ℕ}) header-then-words, length-append (headerOf f) (wordsOf (numbersOf f)), length-header, length-words (numbersOf f))
+  length-file = omega (arith, ap (length {A = ℕ}) header-then-words, length-append (front f) (wordsOf (numbersOf f)), length-header, length-words (numbersOf f))
 
   -- the fields of one byte
   pub version-of-file : version (fileOf f) ≡ f .version
-  unfolding fileOf bytesOf
+  unfolding headed fileOf bytesOf
   version-of-file = refl
 
   pub states-of-file : stateCount (fileOf f) ≡ f .states
-  unfolding fileOf bytesOf
+  unfolding headed fileOf bytesOf
   states-of-file = refl
 
   pub highest-of-file : highestMoment (fileOf f) ≡ f .highest
-  unfolding fileOf bytesOf
+  unfolding headed fileOf bytesOf
   highest-of-file = refl
 
   distributions-of-file : distributions (fileOf f) ≡ pick (eqb (f .version) 2) 1 0
@@ -145,15 +145,15 @@ module _ (f : Fields) where
 
   module _ (fits : Fits f) where
     length-of-file : lengthField (fileOf f) ≡ 4 * length (numbersOf f) + 11
-    unfolding fileOf
+    unfolding headed fileOf bytesOf
     length-of-file = big-of-bytes 2 (4 * length (numbersOf f) + 11) [] _ 0 refl (fits .length-fits)
 
     tolerance-of-file : toleranceField (fileOf f) ≡ f .tolerance
-    unfolding fileOf bytesOf
+    unfolding headed fileOf bytesOf
     tolerance-of-file = big-of-bytes 4 (f .tolerance) (bytesOf 2 (4 * length (numbersOf f) + 11) ++ (f .version ∷ f .states ∷ f .highest ∷ [])) _ 5 refl (fits .tolerance-fits)
 
     time-of-file : timeField (fileOf f) ≡ f .time
-    unfolding fileOf bytesOf
+    unfolding headed fileOf bytesOf
     time-of-file = big-of-bytes 4 (f .time) (bytesOf 2 (4 * length (numbersOf f) + 11) ++ ((f .version ∷ f .states ∷ f .highest ∷ []) ++ bytesOf 4 (f .tolerance))) _ 9 refl (fits .time-fits)
 
     -- M weights for each distribution
@@ -164,19 +164,19 @@ module _ (f : Fields) where
     unfolding fieldsOf
     weights-of-file =
         ap₂ (λ (s : List ℕ) (n : ℕ). numbersAt s 13 n) file-in-parts weights-held
-        ∙ numbers-of-words (f .weights) (headerOf f) (wordsOf (f .rewards) ++ wordsOf (f .rates)) 13 length-header (fits .weights-fit)
+        ∙ numbers-of-words (f .weights) (front f) (wordsOf (f .rewards) ++ wordsOf (f .rates)) 13 length-header (fits .weights-fit)
 
     -- what stands before the rewards, and before the rates
     to-rewards : List ℕ
-    to-rewards = headerOf f ++ wordsOf (f .weights)
+    to-rewards = front f ++ wordsOf (f .weights)
 
     length-to-rewards : length to-rewards ≡ 13 + 4 * length (f .weights)
     unfolding to-rewards
-    length-to-rewards = omega (arith, length-append (headerOf f) (wordsOf (f .weights)), length-header, length-words (f .weights))
+    length-to-rewards = omega (arith, length-append (front f) (wordsOf (f .weights)), length-header, length-words (f .weights))
 
     at-rewards : fileOf f ≡ to-rewards ++ (wordsOf (f .rewards) ++ wordsOf (f .rates))
     unfolding to-rewards
-    at-rewards = file-in-parts ∙ sym (append-assoc (headerOf f) (wordsOf (f .weights)) (wordsOf (f .rewards) ++ wordsOf (f .rates)))
+    at-rewards = file-in-parts ∙ sym (append-assoc (front f) (wordsOf (f .weights)) (wordsOf (f .rewards) ++ wordsOf (f .rates)))
 
     at-rates : fileOf f ≡ (to-rewards ++ wordsOf (f .rewards)) ++ (wordsOf (f .rates) ++ [])
     at-rates = at-rewards ∙ sym (append-assoc to-rewards (wordsOf (f .rewards)) (wordsOf (f .rates))) ∙ ap (λ (l : List ℕ). (to-rewards ++ wordsOf (f .rewards)) ++ l) (sym (append-nil (wordsOf (f .rates))))
@@ -223,8 +223,8 @@ module _ (f : Fields) where
     single-bytes (suc (suc zero)) = fits .highest-fits
     single-bytes (suc (suc (suc k))) = omega arith
 
-    header-bytes : (k : ℕ) → getD (headerOf f) k 0 < 256
-    unfolding headerOf
+    header-bytes : (k : ℕ) → getD (front f) k 0 < 256
+    unfolding headed
     header-bytes k =
         below-append 256 (bytesOf 2 (4 * length (numbersOf f) + 11)) ((f .version ∷ f .states ∷ f .highest ∷ []) ++ (bytesOf 4 (f .tolerance) ++ bytesOf 4 (f .time))) (bytes-below 2 (4 * length (numbersOf f) + 11))
         (below-append 256 (f .version ∷ f .states ∷ f .highest ∷ []) (bytesOf 4 (f .tolerance) ++ bytesOf 4 (f .time)) single-bytes
@@ -232,7 +232,7 @@ module _ (f : Fields) where
         k
 
     bytes-file : (i : ℕ) → getD (fileOf f) i 0 < 256
-    bytes-file i = rw header-then-words (below-append 256 (headerOf f) (wordsOf (numbersOf f)) header-bytes (words-below (numbersOf f)) i)
+    bytes-file i = rw header-then-words (below-append 256 (front f) (wordsOf (numbersOf f)) header-bytes (words-below (numbersOf f)) i)
 
     -- such a file is whole
     pub whole-file : Whole (fileOf f)
