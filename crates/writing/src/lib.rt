@@ -4,10 +4,12 @@
 // text and says that no other byte changes.
 ghost use mathlib.Core.Path.{_≡_};
 ghost use mathlib.Core.List.{[], _∷_};
-ghost use Prim.Native.Nat.{_+_, _/_, _%_, _^_, _<_, _≤_};
+ghost use Prim.Native.Nat.{_+_, _*_, _/_, _%_, _^_, _<_, _≤_};
 ghost use lib.ListN.{length, replicate};
 ghost use Rattle.definitions.specs.Bytes.{bytesOf};
+ghost use Rattle.definitions.specs.Fields.{headed};
 ghost use Rattle.writing.specs.Puts.{Puts};
+use definitions::Header;
 
 // One byte.
 pub fn put(out: &mut [u8], at: usize, b: u8) -> usize
@@ -67,4 +69,17 @@ pub fn put_big(out: &mut [u8], at: usize, n: u64, width: usize) -> usize
         above += 1;
     }
     to
+}
+
+// The header of a file in which so many numbers follow, at the start of what is lent.
+pub fn put_header(out: &mut [u8], header: Header, numbers: usize) -> usize
+    requires { ⌜ (4 * numbers + 11 < 2 ^ 16) × (13 ≤ length (now out)) ⌝ }
+    ensures { λ r. ⌜ Puts (headed header numbers) 13 0 (now (out .entry)) (now (out .exit)) r ⌝ }
+{
+    let version = put_big(out, 0, 4 * numbers as u64 + 11, 2);
+    let states = put(out, version, header.version);
+    let highest = put(out, states, header.states);
+    let tolerance = put(out, highest, header.highest);
+    let time = put_big(out, tolerance, header.tolerance as u64, 4);
+    put_big(out, time, header.time as u64, 4)
 }
