@@ -14,7 +14,7 @@ use Rattle.definitions.specs.Fields.{Fields, inVersion, numbersAt, wordsOf, fie
 use Rattle.laws.specs.WordLaws.{part-listed, bytes-listed, bytes-of-big, big-of-bytes, big-below, length-numbers, numbers-further, words-append, length-words, words-of-numbers, numbers-of-words, below-append, bytes-below, words-below, numbers-below}
 
 -- M rewards and M rows of M − 1 rates are M × M numbers
-square : (n : ℕ) → 1 ≤ n → n + n * (n - 1) ≡ n * n
+pub square : (n : ℕ) → 1 ≤ n → n + n * (n - 1) ≡ n * n
 square zero h = absurd (omega arith)
 square (suc k) h = rw sub-one (omega arith)
 

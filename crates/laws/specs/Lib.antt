@@ -11,6 +11,7 @@ pub mod ChainLaws
 pub mod ArrayLaws
 pub mod RuleLaws
 pub mod RowLaws
+pub mod FileLaws
 pub mod VectorLaws
 pub mod Acceptance
 pub mod WeightLaws
@@ -28,3 +29,4 @@ pub mod RemainderLaws
 pub mod WrittenLaws
 pub mod MovedLaws
 pub mod ConvertLaws
+pub mod PracticeLaws

@@ -2,23 +2,21 @@
 use Prim.Native.Nat.{ℕ, _+_, _*_, _-_, _≤_, _<_, _^_}
 use native.Mathlib.Omega.{arith}
 use native.Mathlib.Nat.{mul-le-mul}
-use mathlib.Core.Path.{_≡_, refl, sym, _∙_, ap, subst}
-use mathlib.Core.Bool.{false, _||_}
+use mathlib.Core.Path.{_≡_, sym, _∙_, ap, subst}
+use mathlib.Core.Bool.{false}
 use mathlib.Core.List.{List, [], _++_}
 use lib.ListN.{length, getD, drop}
-use lib.Dec.{eqb, ltb}
-use borrow.Author.Tests.{le-ltb}
+use lib.Dec.{eqb}
 use Rattle.definitions.specs.Sums.{pick}
 use Rattle.definitions.specs.Bytes.{big}
-use Rattle.definitions.specs.File.{lengthField, version, stateCount, highestMoment, toleranceField, timeField, distributions, weightField, rewardsAt, rewardField, rowAt, place, rateField}
+use Rattle.definitions.specs.File.{version, stateCount, highestMoment, toleranceField, timeField, distributions, weightField, rewardsAt, rewardField, rowAt, place, rateField}
 use Rattle.definitions.specs.Chain.{Model, modelOf, jumpRate, rowSum, uniformRate, c, maxReward, jumpMillionths}
-use Rattle.definitions.specs.Rules.{framing, fittingLength, quantities, misweighted, jumps, fileRows}
+use Rattle.definitions.specs.Rules.{dimensions, framing, quantities, misweighted, jumps, fileRows}
 use Rattle.definitions.specs.Moment.{moment, modelLevel}
-use Rattle.definitions.specs.Fields.{Fields, inVersion, numbersAt, wordsOf, fieldsOf, fileOf}
+use Rattle.definitions.specs.Fields.{Fields, inVersion, wordsOf, fieldsOf, fileOf}
 use Rattle.laws.specs.ByteLaws.{big-drop}
-use Rattle.laws.specs.ListLaws.{getD-firsts}
-use Rattle.laws.specs.RuleLaws.{NoneHold, none-in-parts, none-together, agree}
-use Rattle.laws.specs.RowLaws.{is-inside}
+use Rattle.laws.specs.RuleLaws.{NoneHold, none-in-parts, none-together}
+use Rattle.laws.specs.FileLaws.{tolerance-held, time-held, framing-passes, weight-held}
 use Rattle.laws.specs.FieldLaws.{Whole, words-rest, numbers-in-version, Fits, version-of-file, states-of-file, highest-of-file, fields-of-file, whole-file, fields-fit}
 
 -- two lists that are alike from a place of each on hold the same numbers from there on
@@ -101,11 +99,11 @@ module _ (s : List ℕ) (whole : Whole s) (v : ℕ) (w : List ℕ) where
 
     tolerance-same : toleranceField t ≡ toleranceField s
     unfolding fieldsOf
-    tolerance-same = ap (λ (x : Fields). x .tolerance) fields-same
+    tolerance-same = tolerance-held f fits
 
     time-same : timeField t ≡ timeField s
     unfolding fieldsOf
-    time-same = ap (λ (x : Fields). x .time) fields-same
+    time-same = time-held f fits
 
     reward-same : (i : ℕ) → rewardField t i ≡ rewardField s i
     reward-same i = shifted 4 (rewardsAt t) (rewardsAt s) (4 * i) t s rest-same
@@ -138,16 +136,10 @@ module _ (s : List ℕ) (whole : Whole s) (v : ℕ) (w : List ℕ) where
     unfolding distributions
     distributions-are = rw (version-of-file f)
 
-    weights-are : (i : ℕ) → i < distributions t * stateCount t → weightField t i ≡ getD w i 0
-    unfolding fieldsOf numbersAt
-    weights-are i h = sym (getD-firsts 0 (distributions t * stateCount t) (weightField t) i h) ∙ ap (λ (x : Fields). getD (x .weights) i 0) fields-same
-
-    -- rows 1 to 6
-    framing-passes : (a b oldest newest : ℕ) → oldest ≤ v → v ≤ newest → NoneHold (framing a b s) → NoneHold (framing oldest newest t)
-    unfolding framing
-    framing-passes a b oldest newest old new row =
-        let whole-t = whole-file f fits in
-        (le-ltb (length t) 13 (omega (arith, whole-t .size)), (agree (lengthField t) (length t - 2) (whole-t .counted), (rw (version-of-file f) (is-inside oldest newest v old new), (rw states-same (row .1 .1 .1 .0), (rw highest-same (row .1 .1 .1 .1 .0), (agree (lengthField t) (fittingLength t) (omega (arith, whole-t .size, whole-t .counted)), tt))))))
+    -- rows 4 and 5 are those of s
+    dimensions-pass : (a b : ℕ) → NoneHold (framing a b s) → NoneHold (dimensions (f .states) (f .highest))
+    unfolding framing fieldsOf
+    dimensions-pass a b row = (row .1 .1 .1 .0, (row .1 .1 .1 .1 .0, tt))
 
     -- rows 7, 8, 16 and 9 to 11
     quantities-pass : misweighted (modelOf t) ≡ false → NoneHold (quantities (modelOf s) []) → NoneHold (quantities (modelOf t) [])
@@ -164,7 +156,7 @@ module _ (s : List ℕ) (whole : Whole s) (v : ℕ) (w : List ℕ) where
         let to12 = none-in-parts (framing a b s ++ quantities (modelOf s) []) (jumps (uniformRate (modelOf s)) (timeField s)) none in
         let to11 = none-in-parts (framing a b s) (quantities (modelOf s) []) (to12 .0) in
         none-together (framing oldest newest t ++ quantities (modelOf t) []) (jumps (uniformRate (modelOf t)) (timeField t))
-        (none-together (framing oldest newest t) (quantities (modelOf t) []) (framing-passes a b oldest newest old new (to11 .0)) (quantities-pass weighed (to11 .1)))
+        (none-together (framing oldest newest t) (quantities (modelOf t) []) (framing-passes f fits oldest newest old new (dimensions-pass a b (to11 .0))) (quantities-pass weighed (to11 .1)))
         (jumps-pass (to12 .1))
 
     -- a starting distribution has no part in the level and the moments
@@ -183,7 +175,7 @@ module _ (s : List ℕ) (whole : Whole s) (v : ℕ) (w : List ℕ) where
           states = states-same;
           distributed = distributions-are;
           model = model-same;
-          weights = weights-are;
+          weights = weight-held f fits;
           rows = rows-pass;
           level = level-same;
           moments = moments-same;

@@ -7,7 +7,7 @@ use mathlib.Core.Bool.{Bool, true, false, not, _&&_, _||_, or-true}
 use mathlib.Core.List.{List, [], _∷_}
 use lib.Dec.{eqb, leb, ltb}
 use lib.ListN.{length, getD}
-use borrow.Author.Tests.{le-leb, lt-leb, lt-ltb, le-ltb, ltb-false, eqb-true, eqb-false, not-false}
+use borrow.Author.Tests.{le-leb, lt-leb, lt-ltb, le-ltb, ltb-false, eqb-true, not-false}
 use Rattle.definitions.specs.Sums.{sum, largest, anyAbove}
 use Rattle.definitions.specs.File.{stateCount, rewardField}
 use Rattle.definitions.specs.Chain.{Model, modelOf, rowSum, uniformRate, maxReward}

@@ -2,16 +2,15 @@
 use Prim.Native.Nat.{ℕ, zero, suc, _+_, _*_, _/_, _%_, _≤_, _<_, _^_}
 use native.Mathlib.Omega.{arith}
 use native.Mathlib.Nat.{pow-suc}
-use native.Mathlib.Decide.{decLt}
 use mathlib.Core.Path.{_≡_, refl, sym, _∙_, ap, ap₂}
 use mathlib.Core.List.{List, [], _∷_, _++_, append-assoc}
-use lib.ListN.{length, getD, take, drop, length-append, length-drop, List·getD-eq-default}
+use lib.ListN.{length, getD, take, drop, length-append, length-drop}
 use lib.Seq.{take-suc, take-add, drop-drop, getD-drop, getD-at}
 use Rattle.definitions.specs.Sums.{firsts}
 use Rattle.definitions.specs.Bytes.{big, bytesOf}
 use Rattle.definitions.specs.Fields.{numbersAt, wordsOf}
 use Rattle.laws.specs.Rounding.{quotient-unique, remainder-unique, quotient-below, quotient-remainder, remainder-below}
-use Rattle.laws.specs.ListLaws.{length-firsts, getD-firsts, firsts-same}
+use Rattle.laws.specs.ListLaws.{length-firsts, firsts-same}
 use Rattle.laws.specs.ByteLaws.{length-bytes}
 use Rattle.laws.specs.BlockLaws.{firsts-further}
 
@@ -144,11 +143,17 @@ unfolding wordsOf
 words-below [] i = omega arith
 words-below (x ∷ later) i = below-append 256 (bytesOf 4 x) (wordsOf later) (bytes-below 4 x) (words-below later) i
 
+-- numbers that are all below k, in a list of them
+pub firsts-below : (k n : ℕ) (f : ℕ → ℕ) → ((i : ℕ) → f i < k) → (i : ℕ) → getD (firsts n f) i 0 < k
+unfolding firsts
+firsts-below k zero f p i = omega (arith, p 0)
+firsts-below k (suc n) f p i = below-append k (firsts n f) (f n ∷ []) (firsts-below k n f p) last i
+  where
+    last : (j : ℕ) → getD (f n ∷ []) j 0 < k
+    last zero = p n
+    last (suc j) = omega (arith, p 0)
+
 -- numbers that were read from bytes fit their bytes
 pub numbers-below : (s : List ℕ) (at n : ℕ) → ((i : ℕ) → getD s i 0 < 256) → (i : ℕ) → getD (numbersAt s at n) i 0 < 2 ^ 32
 unfolding numbersAt
-numbers-below s at n low i =
-    elim (decLt i n) [
-      | yes b ↦ omega (arith, getD-firsts 0 n (λ k. big 4 s (at + 4 * k)) i b, big-below 4 (at + 4 * i) s low)
-      | no p ↦ omega (arith, List·getD-eq-default (firsts n (λ k. big 4 s (at + 4 * k))) 0 {n = i} (omega (arith, p, length-firsts n (λ k. big 4 s (at + 4 * k)))))
-    ]
+numbers-below s at n low = firsts-below (2 ^ 32) n (λ k. big 4 s (at + 4 * k)) (λ k. big-below 4 (at + 4 * k) s low)
