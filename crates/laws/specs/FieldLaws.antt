@@ -112,7 +112,7 @@ module _ (f : Fields) where
   length-header = refl
 
   header-then-words : fileOf f ≡ front f ++ wordsOf (numbersOf f)
-  unfolding front fileOf bytesOf
+  unfolding fileOf
   header-then-words = refl
 
   -- the file in its parts

@@ -2,20 +2,22 @@
 use Prim.Native.Nat.{ℕ, zero, suc, _+_, _*_, _-_, _/_, _≤_, _<_, _^_}
 use native.Mathlib.Omega.{arith}
 use native.Mathlib.Nat.{add-zero, mul-le-mul, le-refl}
+use native.Mathlib.Numerals.{add-one}
 use native.Mathlib.Decide.{ℕ-discrete}
 use mathlib.Core.Path.{_≡_, refl, sym, _∙_, ap, ap₂}
 use mathlib.Core.Bool.{false, _||_}
-use mathlib.Core.List.{List, [], _∷_, _++_}
+use mathlib.Core.List.{List, [], _∷_, _++_, append-assoc}
 use lib.ListN.{length, getD}
 use lib.Dec.{eqb}
 use borrow.Author.Tests.{eq-eqb, ne-eqb, le-ltb}
+use Rattle.definitions.specs.declared.Header.{Header}
 use Rattle.definitions.specs.Sums.{sum, firsts}
 use Rattle.definitions.specs.Bytes.{bytesOf}
 use Rattle.definitions.specs.File.{stateCount, highestMoment, timeField, toleranceField, distributions, rewardField, place}
 use Rattle.definitions.specs.Chain.{modelOf, jumpRate, rowSum, uniformRate, maxReward}
 use Rattle.definitions.specs.Rules.{Answer, accepted, refused, outside, dimensions, framing, quantities, jumps, blockSize, fileRows, fileJudgement}
 use Rattle.definitions.specs.Moment.{modelLevel, outcome}
-use Rattle.definitions.specs.Fields.{Fields, wordsOf, fieldsOf, numbersOf, headed, fileOf}
+use Rattle.definitions.specs.Fields.{Fields, wordsOf, fieldsOf, numbersOf, headed, headerOf, fileOf}
 use Rattle.definitions.specs.Practice.{next, stream, upper, draw, practiceFields, practiceFile, practice, DealtWell}
 use Rattle.laws.specs.Rounding.{quotient-below, remainder-below}
 use Rattle.laws.specs.SumLaws.{sum-mono, sum-constant, le-largest, largest-le}
@@ -31,13 +33,40 @@ use Rattle.laws.specs.WrittenLaws.{is-written, was-written}
 use Rattle.laws.specs.FieldLaws.{square, Fits, length-file, fields-of-file, states-of-file, highest-of-file, version-of-file}
 use Rattle.laws.specs.FileLaws.{tolerance-held, time-held, framing-passes, reward-held, rate-held}
 
+-- no step yet, and one step more
+pub stream-first : (seed : ℕ) → stream seed 0 ≡ seed
+unfolding stream
+stream-first seed = refl
+
+pub stream-next : (seed k : ℕ) → stream seed (k + 1) ≡ next (stream seed k)
+unfolding stream
+stream-next seed k = rw add-one refl
+
+-- a draw is the upper bits after that step
+pub draw-next : (seed k : ℕ) → draw seed k ≡ upper (next (stream seed k))
+unfolding stream draw
+draw-next seed k = refl
+
+-- the first two draws, and the number that the others follow
+pub first-draw : (seed : ℕ) → draw seed 0 ≡ upper (next seed)
+unfolding stream draw
+first-draw seed = refl
+
+pub second-draw : (seed : ℕ) → draw seed 1 ≡ upper (next (next seed))
+unfolding stream draw
+second-draw seed = refl
+
+pub second-step : (seed : ℕ) → stream seed 2 ≡ next (next seed)
+unfolding stream
+second-step seed = refl
+
 -- the stream goes on from any of its numbers
 stream-later : (seed a k : ℕ) → stream (stream seed a) k ≡ stream seed (a + k)
 unfolding stream
 stream-later seed a zero = sym (ap (stream seed) (add-zero a))
 stream-later seed a (suc k) = let one : a + suc k ≡ suc (a + k) = omega arith in rw one (ap next (stream-later seed a k))
 
-pub draw-later : (seed a k : ℕ) → draw (stream seed a) k ≡ draw seed (a + k)
+draw-later : (seed a k : ℕ) → draw (stream seed a) k ≡ draw seed (a + k)
 unfolding draw
 draw-later seed a k = let one : a + suc k ≡ suc (a + k) = omega arith in ap upper (stream-later seed a (suc k) ∙ ap (stream seed) one)
 
@@ -51,7 +80,7 @@ module _ (M R seed : ℕ) (some : 1 ≤ M) where
   abbrev f : Fields
   f = practiceFields M R seed
 
-  pub numbers-dealt : numbersOf f ≡ (draw seed 1 + 1) ∷ firsts (M * M - 1) (λ k. draw seed (2 + k))
+  numbers-dealt : numbersOf f ≡ (draw seed 1 + 1) ∷ firsts (M * M - 1) (λ k. draw seed (2 + k))
   unfolding practiceFields
   numbers-dealt = ap (λ (l : List ℕ). (draw seed 1 + 1) ∷ l) (rates ∙ sym (ap (λ (n : ℕ). firsts n (λ k. draw seed (2 + k))) all ∙ firsts-further (M - 1) (M * (M - 1)) (λ k. draw seed (2 + k))))
     where
@@ -65,11 +94,25 @@ module _ (M R seed : ℕ) (some : 1 ≤ M) where
   length-dealt = ap (length {A = ℕ}) numbers-dealt ∙ omega (arith, length-firsts (M * M - 1) (λ k. draw seed (2 + k)), square M some)
 
   -- the file: its header, the first reward, and the draws after it
-  pub bytes-dealt : practiceFile M R seed ≡ headed (record { version = 1; states = M; highest = R; tolerance = 10000; time = 1 + draw seed 0 / 4096 }) (M * M) ++ (bytesOf 4 (draw seed 1 + 1) ++ wordsOf (firsts (M * M - 1) (λ k. draw seed (2 + k))))
-  unfolding fileOf practiceFields practiceFile
+  bytes-dealt : practiceFile M R seed ≡ headed (headerOf f) (M * M) ++ (bytesOf 4 (draw seed 1 + 1) ++ wordsOf (firsts (M * M - 1) (λ k. draw seed (2 + k))))
+  unfolding fileOf practiceFile
   bytes-dealt =
-      ap₂ (λ (n : ℕ) (l : List ℕ). headed (record { version = 1; states = M; highest = R; tolerance = 10000; time = 1 + draw seed 0 / 4096 }) n ++ wordsOf l) length-dealt numbers-dealt
-      ∙ ap (λ (l : List ℕ). headed (record { version = 1; states = M; highest = R; tolerance = 10000; time = 1 + draw seed 0 / 4096 }) (M * M) ++ l) (words-first (draw seed 1 + 1) _)
+      ap₂ (λ (n : ℕ) (l : List ℕ). headed (headerOf f) n ++ wordsOf l) length-dealt numbers-dealt
+      ∙ ap (λ (l : List ℕ). headed (headerOf f) (M * M) ++ l) (words-first (draw seed 1 + 1) (firsts (M * M - 1) (λ k. draw seed (2 + k))))
+
+  -- what is put one after the other
+  pub text-dealt : (h : Header) (count reward second : ℕ) → h .version ≡ 1 → h .states ≡ M → h .highest ≡ R → h .tolerance ≡ 10000 → h .time ≡ 1 + draw seed 0 / 4096 →
+      count ≡ M * M → reward ≡ draw seed 1 + 1 → second ≡ stream seed 2 →
+      headed h count ++ bytesOf 4 reward ++ wordsOf (firsts (count - 1) (draw second)) ≡ practiceFile M R seed
+  text-dealt h count reward second v m r e t n first from =
+      ap₂ (λ (x : Header) (k : ℕ). headed x k ++ bytesOf 4 reward ++ wordsOf (firsts (k - 1) (draw second))) header n
+      ∙ ap₂ (λ (x y : ℕ). headed (headerOf f) (M * M) ++ bytesOf 4 x ++ wordsOf (firsts (M * M - 1) (draw y))) first from
+      ∙ append-assoc (headed (headerOf f) (M * M)) (bytesOf 4 (draw seed 1 + 1)) (wordsOf (firsts (M * M - 1) (draw (stream seed 2))))
+      ∙ ap (λ (l : List ℕ). headed (headerOf f) (M * M) ++ (bytesOf 4 (draw seed 1 + 1) ++ wordsOf l)) (firsts-same (M * M - 1) (draw (stream seed 2)) (λ k. draw seed (2 + k)) (λ k l. draw-later seed 2 k))
+      ∙ sym bytes-dealt
+    where
+      header : h ≡ headerOf f
+      header = unfold practiceFields in λ i. record { version = v i; states = m i; highest = r i; tolerance = e i; time = t i }
 
   pub length-of-dealt : length (practiceFile M R seed) ≡ 4 * (M * M) + 13
   unfolding practiceFile

@@ -2,8 +2,9 @@
 use Prim.Native.Nat.{ℕ, zero, suc, _+_, _*_, _/_, _%_, _≤_, _<_, _^_}
 use native.Mathlib.Omega.{arith}
 use native.Mathlib.Nat.{pow-suc}
+use native.Mathlib.Numerals.{add-one}
 use mathlib.Core.Path.{_≡_, refl, sym, _∙_, ap, ap₂}
-use mathlib.Core.List.{List, [], _∷_, _++_, append-assoc}
+use mathlib.Core.List.{List, [], _∷_, _++_, append-assoc, append-nil}
 use lib.ListN.{length, getD, take, drop, length-append, length-drop}
 use lib.Seq.{take-suc, take-add, drop-drop, getD-drop, getD-at}
 use Rattle.definitions.specs.Sums.{firsts}
@@ -91,6 +92,11 @@ words-append (x ∷ later) b = ap (λ (l : List ℕ). bytesOf 4 x ++ l) (words-a
 pub words-first : (x : ℕ) (later : List ℕ) → wordsOf (x ∷ later) ≡ bytesOf 4 x ++ wordsOf later
 unfolding wordsOf
 words-first x later = refl
+
+-- one number more
+pub words-more : (n : ℕ) (f : ℕ → ℕ) → wordsOf (firsts (n + 1) f) ≡ wordsOf (firsts n f) ++ bytesOf 4 (f n)
+unfolding firsts wordsOf
+words-more n f = rw add-one (words-append (firsts n f) (f n ∷ []) ∙ ap (λ (l : List ℕ). wordsOf (firsts n f) ++ l) (append-nil (bytesOf 4 (f n))))
 
 -- each number has four bytes
 pub length-words : (l : List ℕ) → length (wordsOf l) ≡ 4 * length l

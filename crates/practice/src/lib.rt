@@ -1,0 +1,85 @@
+// Practice files from a seed number (document 02, S-6).
+//
+// The same M, R and seed number deal the same file. It is written at the start of what is lent, and a refusal
+// writes nothing.
+ghost use mathlib.Core.Path.{_≡_};
+ghost use Prim.Native.Nat.{_+_, _*_, _%_, _^_, _≤_};
+ghost use lib.ListN.{length};
+ghost use Rattle.definitions.specs.Sums.{firsts};
+ghost use Rattle.definitions.specs.Fields.{wordsOf};
+ghost use Rattle.definitions.specs.Written.{countOf, bytesAfter, writtenAnswer};
+ghost use Rattle.definitions.specs.Practice.{next, upper, draw, practiceFile, practice, DealtWell};
+ghost use Rattle.writing.specs.Puts.{Puts};
+ghost use Rattle.writing.specs.Printed.{Printed};
+use definitions::Header;
+use definitions::Judgement;
+use definitions::Written;
+
+// The stream: next = previous × MULTIPLIER + INCREMENT, cut to 32 bits.
+
+const MULTIPLIER: u32 = 1_664_525;
+
+const INCREMENT: u32 = 1_013_904_223;
+
+// 2^32.
+const WRAP: u64 = 4_294_967_296;
+
+const TOLERANCE: u32 = 10_000;
+
+// a × b, cut to 32 bits.
+fn wrapping_mul(a: u32, b: u32) -> u32
+    ensures { λ r. ⌜ r ≡ a * b % 2 ^ 32 ⌝ }
+{
+    (a as u64 * b as u64 % WRAP) as u32
+}
+
+// The stream's number after `previous`.
+fn next(previous: u32) -> u32
+    ensures { λ r. ⌜ r ≡ next previous ⌝ }
+{
+    std::num::wrapping_add_u32(wrapping_mul(previous, MULTIPLIER), INCREMENT)
+}
+
+// A draw: the upper 16 bits of a number of the stream.
+fn upper(number: u32) -> u32
+    ensures { λ r. ⌜ r ≡ upper number ⌝ }
+{
+    number >> 16
+}
+
+// So many draws, those after the number `from` of the stream, 4 bytes each.
+fn put_draws(out: &mut [u8], at: usize, from: u32, count: usize) -> usize
+    requires { ⌜ at + 4 * count ≤ length (now out) ⌝ }
+    ensures { λ r. ⌜ Puts (wordsOf (firsts count (draw from))) (4 * count) at (now (out .entry)) (now (out .exit)) r ⌝ }
+{
+    let mut to = at;
+    let mut number = from;
+    let mut done = 0;
+    while done < count {
+        number = next(number);
+        to = writing::put_big(out, to, upper(number) as u64, 4);
+        done += 1;
+    }
+    to
+}
+
+// The practice file of so many states: the first draw is for the time, the second for the first reward, and the
+// later ones for the other rewards and the rates, in the order of the file.
+fn put_file(out: &mut [u8], states: u8, highest: u8, seed: u32) -> usize
+    requires { ⌜ (1 ≤ states) × (states ≤ 64) × (4 * (states * states) + 13 ≤ length (now out)) ⌝ }
+    ensures { λ r. ⌜ Printed (practiceFile states highest seed) (now (out .entry)) (now (out .exit)) r ⌝ }
+{
+    let first = next(seed);
+    let second = next(first);
+    let numbers = states as usize * states as usize;
+    let header = Header {
+        version: 1,
+        states,
+        highest,
+        tolerance: TOLERANCE,
+        time: 1 + upper(first) / 4096,
+    };
+    let rewards = writing::put_header(out, header, numbers);
+    let others = writing::put_big(out, rewards, upper(second) as u64 + 1, 4);
+    put_draws(out, others, second, numbers - 1)
+}
