@@ -15,7 +15,7 @@ use Rattle.definitions.specs.Sums.{sum, firsts}
 use Rattle.definitions.specs.Bytes.{bytesOf}
 use Rattle.definitions.specs.File.{stateCount, highestMoment, timeField, toleranceField, distributions, rewardField, place}
 use Rattle.definitions.specs.Chain.{modelOf, jumpRate, rowSum, uniformRate, maxReward}
-use Rattle.definitions.specs.Rules.{Answer, accepted, refused, outside, dimensions, framing, quantities, jumps, blockSize, fileRows, fileJudgement}
+use Rattle.definitions.specs.Rules.{Answer, accepted, refused, outside, dimensions, framing, quantities, jumps, blockSize, fileRows, judgedBy, fileJudgement}
 use Rattle.definitions.specs.Moment.{modelLevel, outcome}
 use Rattle.definitions.specs.Fields.{Fields, wordsOf, fieldsOf, numbersOf, headed, headerOf, fileOf}
 use Rattle.definitions.specs.Practice.{next, stream, upper, draw, practiceFields, practiceFile, practice, DealtWell}
@@ -25,11 +25,11 @@ use Rattle.laws.specs.ChainLaws.{other-version}
 use Rattle.laws.specs.ListLaws.{length-firsts, firsts-same}
 use Rattle.laws.specs.BlockLaws.{firsts-further}
 use Rattle.laws.specs.WordLaws.{words-first, firsts-below}
-use Rattle.laws.specs.RuleLaws.{NoneHold, none-together, all-pass}
+use Rattle.laws.specs.RuleLaws.{NoneHold, none-hold, none-together, all-pass}
 use Rattle.laws.specs.RowLaws.{in-range, is-inside, no-start, rewards-within, some-reward, sums-within, enough}
 use Rattle.laws.specs.Acceptance.{judgement-in-parts}
 use Rattle.laws.specs.MomentLaws.{outcome-accepted}
-use Rattle.laws.specs.WrittenLaws.{is-written, was-written}
+use Rattle.laws.specs.WrittenLaws.{stopped-by-table, stopped-by-room, is-written, was-written}
 use Rattle.laws.specs.FieldLaws.{square, Fits, length-file, fields-of-file, states-of-file, highest-of-file, version-of-file}
 use Rattle.laws.specs.FileLaws.{tolerance-held, time-held, framing-passes, reward-held, rate-held}
 
@@ -255,14 +255,32 @@ module _ (M R seed : ℕ) (row : NoneHold (dimensions M R)) where
       block : blockSize t ≤ cells
       block = omega (arith, ap₂ (λ (a b : ℕ). (a + distributions t) * b) states-are highest-is, ap (λ (d : ℕ). (M + d) * R) no-distribution)
 
--- the call: where rows 4 and 5 pass and the bytes are enough, the file; and every file that is dealt is a good one
-pub dealt : (M R seed lent : ℕ) → 1 ≤ M → M ≤ 64 → 1 ≤ R → R ≤ 8 → 4 * (M * M) + 13 ≤ lent → practice M R seed lent ≡ accepted (practiceFile M R seed)
-unfolding practice
-dealt M R seed lent m0 m1 r0 r1 enough-bytes =
-    is-written (dimensions M R) (practiceFile M R seed) lent
-    (all-pass (dimensions M R) (tt {0}) (is-inside 1 64 M m0 m1, (is-inside 1 8 R r0 r1, tt)))
-    (omega (arith, length-of-dealt M R seed m0))
+-- what rows 4 and 5 let pass
+pub in-dimensions : (M R : ℕ) → judgedBy (dimensions M R) ≡ accepted tt → ((1 ≤ M) × (M ≤ 64)) × ((1 ≤ R) × (R ≤ 8))
+in-dimensions M R passed =
+    let row = none-hold (dimensions M R) (tt {0}) tt passed in
+    (in-range 1 64 M (row .0), in-range 1 8 R (row .1 .0))
 
+-- the call: refused by rows 4 and 5, by row 13, or the file
+module _ (M R seed lent : ℕ) where
+  pub dealing-refused : (k : ℕ) → judgedBy (dimensions M R) ≡ refused k → practice M R seed lent ≡ refused k
+  unfolding practice
+  dealing-refused k e = stopped-by-table (dimensions M R) (practiceFile M R seed) lent k e
+
+  module _ (passed : judgedBy (dimensions M R) ≡ accepted tt) where
+    pub no-room-to-deal : lent < 4 * (M * M) + 13 → practice M R seed lent ≡ refused 13
+    unfolding practice
+    no-room-to-deal few = stopped-by-room (dimensions M R) (practiceFile M R seed) lent passed (omega (arith, length-of-dealt M R seed (in-dimensions M R passed .0 .0)))
+
+    pub dealing-accepted : 4 * (M * M) + 13 ≤ lent → practice M R seed lent ≡ accepted (practiceFile M R seed)
+    unfolding practice
+    dealing-accepted bytes = is-written (dimensions M R) (practiceFile M R seed) lent passed (omega (arith, length-of-dealt M R seed (in-dimensions M R passed .0 .0)))
+
+  -- every M and R in range deal a file, for every seed number
+  pub dealt : 1 ≤ M → M ≤ 64 → 1 ≤ R → R ≤ 8 → 4 * (M * M) + 13 ≤ lent → practice M R seed lent ≡ accepted (practiceFile M R seed)
+  dealt m0 m1 r0 r1 = dealing-accepted (all-pass (dimensions M R) (tt {0}) (is-inside 1 64 M m0 m1, (is-inside 1 8 R r0 r1, tt)))
+
+-- and every file that is dealt is a good one
 pub dealt-well : (M R seed lent : ℕ) → DealtWell (practice M R seed lent) M R seed
 unfolding practice
 dealt-well M R seed lent = from (practice M R seed lent) refl

@@ -83,3 +83,19 @@ fn put_file(out: &mut [u8], states: u8, highest: u8, seed: u32) -> usize
     let others = writing::put_big(out, rewards, upper(second) as u64 + 1, 4);
     put_draws(out, others, second, numbers - 1)
 }
+// Deals the practice file of M = states, R = highest and a seed number: the count of its bytes, or the number of
+// the first row that holds. Every file dealt is accepted by the calls that read one, and has figures.
+pub fn practice(states: u64, highest: u64, seed: u32, out: &mut [u8]) -> Written
+    ensures answer { λ o. ⌜ writtenAnswer o ≡ countOf (practice states highest seed (length (now (out .entry)))) ⌝ }
+    ensures bytes { λ o. ⌜ now (out .exit) ≡ bytesAfter (practice states highest seed (length (now (out .entry)))) (now (out .entry)) ⌝ }
+    ensures dealt { λ o. ⌜ DealtWell (practice states highest seed (length (now (out .entry)))) states highest seed ⌝ }
+{
+    let judgement = refusals::judge_dimensions(states, highest);
+    if let Judgement::Refused(k) = judgement {
+        return Written::Refused(k);
+    }
+    if (out.len() as u64) < 4 * states * states + 13 {
+        return Written::Refused(13);
+    }
+    Written::Count(put_file(out, states as u8, highest as u8, seed))
+}

@@ -1,12 +1,10 @@
 -- `practice::put_file` meets its contract: the header, the first reward and the later draws are the practice file. Assumes nothing.
-use Prim.Native.Nat.{ℕ, _+_, _*_, _≤_}
-use mathlib.Core.Path.{_≡_, sym, _∙_, ap, subst}
-use mathlib.Core.List.{List}
+use Prim.Native.Nat.{_*_, _≤_}
+use mathlib.Core.Path.{_≡_, sym, _∙_, ap}
 use native.Mathlib.Nat.{mul-le-mul}
 use native.Mathlib.Omega.{arith}
-use lib.ListN.{length}
 use borrow.Author.Needs.{needs}
-use Rattle.definitions.specs.Practice.{next, upper, draw, stream}
+use Rattle.definitions.specs.Practice.{next, upper, draw}
 use Rattle.laws.specs.PracticeLaws.{first-draw, second-draw, second-step}
 use Rattle.writing.specs.Puts.{then}
 use Rattle.practice.specs.Texts.{printed-dealt}
