@@ -1,17 +1,18 @@
 -- The plain answer of a call says what its outcome says: whether it accepts, and the number.
 use Prim.Native.Nat.{ℕ, _+_, _≤_, _<_}
 use native.Mathlib.Omega.{arith}
-use mathlib.Core.Path.{_≡_, refl, sym, _∙_, ap}
+use mathlib.Core.Path.{_≡_, refl, sym, _∙_, ap, subst}
 use mathlib.Core.List.{List}
 use lib.ListN.{length}
 use borrow.Author.Tests.{lt-ltb, le-ltb}
 use Rattle.definitions.specs.declared.Rests.{Rests}
 use Rattle.definitions.specs.Chain.{modelOf}
-use Rattle.definitions.specs.Rules.{Answer, accepted, refused, seriesJudgement}
+use Rattle.definitions.specs.Rules.{Answer, accepted, refused, fileJudgement, seriesJudgement}
 use Rattle.definitions.specs.Moment.{modelLevel, outcome}
 use Rattle.definitions.specs.Remainders.{Maybe, none, given}
 use Rattle.definitions.specs.Written.{countOf}
 use Rattle.definitions.specs.Convert.{ThereAndBack}
+use Rattle.definitions.specs.Practice.{DealtWell}
 use Rattle.laws.specs.Acceptance.{length-max, accepted-model, accepted-file, accepted-series}
 use Rattle.laws.specs.RuleLaws.{accepted-is-no-refusal}
 use Rattle.laws.specs.MomentLaws.{level-range, level-accepted, outcome-accepted}
@@ -70,13 +71,20 @@ remainders-meant (accepted (given x)) = refl
 remainders-meant (accepted none) = refl
 remainders-meant (refused k) = answer-meant (refused k) (λ n e. absurd (accepted-is-no-refusal n k (sym e)))
 
--- a moved file goes out as its count of bytes, at most 16,653
-pub count-max : (a : Answer (List ℕ)) (s : List ℕ) (back : List ℕ → ℕ → Answer (List ℕ)) → ThereAndBack a s back → (n : ℕ) → countOf a ≡ accepted n → n ≤ 16653
-count-max (accepted t) s back moved n e =
+-- a file that is written, and that calls accept, goes out as its count of bytes, at most 16,653
+pub count-max : (a : Answer (List ℕ)) → ((t : List ℕ) → a ≡ accepted t → fileJudgement 1 2 t ≡ accepted tt) → (n : ℕ) → countOf a ≡ accepted n → n ≤ 16653
+count-max (accepted t) accepts n e =
     let number : length t ≡ n = cc in
-    omega (arith, number, length-max t (accepted-model 1 2 t (moved .accepts) .framed))
-count-max (refused k) s back moved n e = absurd (accepted-is-no-refusal n k (sym e))
+    omega (arith, number, length-max t (accepted-model 1 2 t (accepts t refl) .framed))
+count-max (refused k) accepts n e = absurd (accepted-is-no-refusal n k (sym e))
 
--- so the number tells the answer of a move
+-- so the number tells the answer
+pub written-meant : (a : Answer (List ℕ)) → ((t : List ℕ) → a ≡ accepted t → fileJudgement 1 2 t ≡ accepted tt) → meant (plainAnswer (countOf a)) ≡ countOf a
+written-meant a accepts = answer-meant (countOf a) (λ n e. omega (arith, count-max a accepts n e))
+
+-- that of a move, and that of dealing
 pub moved-meant : (a : Answer (List ℕ)) (s : List ℕ) (back : List ℕ → ℕ → Answer (List ℕ)) → ThereAndBack a s back → meant (plainAnswer (countOf a)) ≡ countOf a
-moved-meant a s back moved = answer-meant (countOf a) (λ n e. omega (arith, count-max a s back moved n e))
+moved-meant a s back moved = written-meant a (λ t e. subst (λ (x : Answer (List ℕ)). ThereAndBack x s back) e moved .accepts)
+
+pub dealt-meant : (a : Answer (List ℕ)) (M R seed : ℕ) → DealtWell a M R seed → meant (plainAnswer (countOf a)) ≡ countOf a
+dealt-meant a M R seed dealt = written-meant a (λ t e. subst (λ (x : Answer (List ℕ)). DealtWell x M R seed) e dealt .accepts 2 (omega arith))

@@ -10,6 +10,7 @@ ghost use Rattle.definitions.specs.Series.{levelsAfter, blocksAfter, AreRuns, S
 ghost use Rattle.definitions.specs.Remainders.{remaindersOf, numberAfter, WorkedOut};
 ghost use Rattle.definitions.specs.Written.{countOf, bytesAfter, writtenAnswer};
 ghost use Rattle.definitions.specs.Convert.{toVersion2, toVersion1, ThereAndBack};
+ghost use Rattle.definitions.specs.Practice.{practice, DealtWell};
 ghost use Rattle.kuldrepso.specs.Plain.{plainAnswer, returning, givenOrNone, withNumbers};
 use definitions::Outcome;
 use definitions::Remainders;
@@ -116,4 +117,14 @@ pub extern "C" fn kuldrepso_to_version_1(file: &[u8], out: &mut [u8]) -> u64
     ensures moved { λ r. ⌜ ThereAndBack (toVersion1 (now (file .entry)) (length (now (out .entry)))) (now (file .entry)) toVersion2 ⌝ }
 {
     plain(convert::to_version_1(file, out))
+}
+
+// practice::practice, with the count of bytes for an acceptance and REFUSED + k for refusal k.
+#[no_mangle]
+pub extern "C" fn kuldrepso_practice(states: u64, highest: u64, seed: u32, out: &mut [u8]) -> u64
+    ensures answer { λ r. ⌜ r ≡ plainAnswer (countOf (practice states highest seed (length (now (out .entry))))) ⌝ }
+    ensures bytes { λ r. ⌜ now (out .exit) ≡ bytesAfter (practice states highest seed (length (now (out .entry)))) (now (out .entry)) ⌝ }
+    ensures dealt { λ r. ⌜ DealtWell (practice states highest seed (length (now (out .entry)))) states highest seed ⌝ }
+{
+    plain(practice::practice(states, highest, seed, out))
 }

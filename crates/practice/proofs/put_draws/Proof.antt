@@ -1,5 +1,5 @@
 -- `practice::put_draws` meets its contract: after each turn one draw more stands there. Assumes nothing.
-use mathlib.Core.Path.{_≡_, refl, sym, _∙_, ap}
+use mathlib.Core.Path.{_≡_, refl, sym, ap}
 use Prim.Native.Nat.{_*_, _-_, _≤_}
 use native.Mathlib.Omega.{arith}
 use lib.ListN.{length}
@@ -7,9 +7,9 @@ use borrow.Author.Needs.{needs}
 use Rattle.definitions.specs.Sums.{firsts}
 use Rattle.definitions.specs.Fields.{wordsOf}
 use Rattle.definitions.specs.Practice.{next, stream, upper, draw}
-use Rattle.laws.specs.WordLaws.{words-more}
 use Rattle.laws.specs.PracticeLaws.{stream-first, stream-next, draw-next}
-use Rattle.writing.specs.Puts.{Puts, nothing, then, wider}
+use Rattle.writing.specs.Puts.{Puts, nothing}
+use Rattle.practice.specs.Texts.{one-more}
 use Rattle.practice.proofs.put_draws.Statement.{statement}
 use Rattle.practice.proofs.put_draws.Tie as tie
 
@@ -30,9 +30,8 @@ loop-again c =
     let step = drawn .before .before in
     let loop = step .before .before .loop in
     let from = step .before .before .before .before .args .from in
-    let number : step .next .result ≡ next (stream from (loop .done)) = step .next .ensures ∙ ap next (loop .inv .1) in
-    let text : drawn .upper .result ≡ draw from (loop .done) = drawn .upper .ensures ∙ ap upper number ∙ sym (draw-next from (loop .done)) in
-    (rw (words-more (loop .done) (draw from), ← text) (wider (omega arith) (then (loop .inv .0) (call .put-big .ensures))), number ∙ sym (stream-next from (loop .done)), omega arith, omega (arith, call .put-big .kept))
+    let number : step .next .result ≡ next (stream from (loop .done)) = omega (arith, step .next .ensures, ap next (loop .inv .1)) in
+    (one-more from (loop .done) _ (loop .inv .0) (call .put-big .ensures) (omega (arith, drawn .upper .ensures, ap upper number, draw-next from (loop .done))), omega (arith, number, stream-next from (loop .done)), omega arith, omega (arith, call .put-big .kept))
 
 returns : tie.Need-returns Inv-loop μ-loop
 returns c =

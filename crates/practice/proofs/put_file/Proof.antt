@@ -1,6 +1,6 @@
 -- `practice::put_file` meets its contract: the header, the first reward and the later draws are the practice file. Assumes nothing.
 use Prim.Native.Nat.{_*_, _≤_}
-use mathlib.Core.Path.{_≡_, sym, _∙_, ap}
+use mathlib.Core.Path.{_≡_, ap}
 use native.Mathlib.Nat.{mul-le-mul}
 use native.Mathlib.Omega.{arith}
 use borrow.Author.Needs.{needs}
@@ -17,10 +17,10 @@ counted start = (mul-le-mul (start .pre .0) (start .pre .0), mul-le-mul (start .
 
 -- the two steps and their draws
 first : (c : tie.After-upper) → let seed = c .before .before .before .before .args .seed in c .upper .result ≡ draw seed 0
-first c = let step = c .before .before in c .upper .ensures ∙ ap upper (step .next .ensures) ∙ sym (first-draw (step .before .before .args .seed))
+first c = let step = c .before .before in omega (arith, c .upper .ensures, ap upper (step .next .ensures), first-draw (step .before .before .args .seed))
 
 second : (c : tie.After-next2) → let seed = c .before .before .before .args .seed in c .next2 .result ≡ next (next seed)
-second c = c .next2 .ensures ∙ ap next (c .before .next .ensures)
+second c = omega (arith, c .next2 .ensures, ap next (c .before .next .ensures))
 
 put-header-requires : tie.Need-put-header-requires
 put-header-requires c κs = let start = c .before .before .before .before .before in (omega (arith, counted start), omega (arith, start .pre))
@@ -51,7 +51,7 @@ returns c =
     let start = step .before .before .before in
     let seed = start .args .seed in
     let put = then (then (header .put-header .ensures) (reward .put-big .ensures)) (draws .put-draws .ensures) in
-    let other : reward .before .upper2 .result ≡ draw seed 1 = reward .before .upper2 .ensures ∙ ap upper (second step) ∙ sym (second-draw seed) in
+    let other : reward .before .upper2 .result ≡ draw seed 1 = omega (arith, reward .before .upper2 .ensures, ap upper (second step), second-draw seed) in
     printed-dealt (start .args .states) (start .args .highest) seed (start .pre .0) _ _ _ _ _ put
     (omega arith)
     (omega arith)
@@ -60,7 +60,7 @@ returns c =
     (omega (arith, first drawn))
     (omega arith)
     (omega (arith, other))
-    (second step ∙ sym (second-step seed))
+    (omega (arith, second step, second-step seed))
     (omega (arith, start .pre, counted start))
 
 pub put-file-spec : {M : Type 1} → statement M

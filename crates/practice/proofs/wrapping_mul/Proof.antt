@@ -2,7 +2,6 @@
 use Prim.Native.Nat.{_≤_}
 use native.Mathlib.Nat.{mul-le-mul}
 use native.Mathlib.Omega.{arith}
-use borrow.Author.Needs.{needs}
 use Rattle.practice.proofs.wrapping_mul.Statement.{statement}
 use Rattle.practice.proofs.wrapping_mul.Tie as tie
 
@@ -13,4 +12,4 @@ mul-result c =
     omega (arith, mul-le-mul a b)
 
 pub wrapping-mul-spec : {M : Type 1} → statement M
-wrapping-mul-spec = tie.close (tie.spec mul-result (λ c. search needs) (λ c. search needs))
+wrapping-mul-spec = tie.close (tie.spec mul-result (λ c. omega arith) (λ c. omega arith))
