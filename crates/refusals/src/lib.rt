@@ -11,7 +11,7 @@ ghost use lib.Dec.{eqb};
 ghost use lib.ListN.{length};
 ghost use Rattle.definitions.specs.File.{stateCount, highestMoment, timeField};
 ghost use Rattle.definitions.specs.Chain.{modelOf, uniformRate};
-ghost use Rattle.definitions.specs.Rules.{outside, beyond, fittingLength, framing, misweighted, startsAtZero, quantities, fallsUpTo, listing, lastTime, jumps, room, blockSize, firstHeld, judgedBy, fileJudgement, judgement, seriesJudgement, verdict};
+ghost use Rattle.definitions.specs.Rules.{outside, dimensions, fittingLength, framing, misweighted, startsAtZero, quantities, fallsUpTo, listing, lastTime, jumps, room, blockSize, firstHeld, judgedBy, fileJudgement, judgement, seriesJudgement, verdict};
 ghost use Rattle.laws.specs.Acceptance.{Framed};
 ghost use Rattle.refusals.specs.Rated.{ratedAs};
 use definitions::ALL_WEIGHT;
@@ -32,18 +32,24 @@ const MOST_ROW_SUM: u64 = 10_000_000;
 
 const MOST_JUMPS: u64 = 256_000_000;
 
-// Whether x is not from 1 to most.
-pub fn outside(x: u64, most: u64) -> bool
-    ensures { λ r. ⌜ r ≡ outside x most ⌝ }
-{
-    x == 0 || x > most
-}
-
 // Whether x is not from low to high.
-fn beyond(low: u64, high: u64, x: u64) -> bool
-    ensures { λ r. ⌜ r ≡ beyond low high x ⌝ }
+pub fn outside(low: u64, high: u64, x: u64) -> bool
+    ensures { λ r. ⌜ r ≡ outside low high x ⌝ }
 {
     x < low || x > high
+}
+
+// Rows 4 and 5: M and R.
+pub fn judge_dimensions(states: u64, highest: u64) -> Judgement
+    ensures { λ r. ⌜ verdict r ≡ judgedBy (dimensions states highest) ⌝ }
+{
+    if outside(1, MOST_STATES, states) {
+        return Judgement::Refused(4);
+    }
+    if outside(1, MOST_MOMENTS, highest) {
+        return Judgement::Refused(5);
+    }
+    Judgement::Accepted
 }
 
 // What the length field holds: 4 × M × M + 11, and 4 × M for each starting distribution.
@@ -67,14 +73,15 @@ fn judge_framing(file: &[u8], low: u64, high: u64) -> Judgement
     if length != (file.len() - 2) as u64 {
         return Judgement::Refused(2);
     }
-    if beyond(low, high, reader::version(file)) {
+    if outside(low, high, reader::version(file)) {
         return Judgement::Refused(3);
     }
-    if outside(reader::state_count(file) as u64, MOST_STATES) {
-        return Judgement::Refused(4);
-    }
-    if outside(reader::highest_moment(file) as u64, MOST_MOMENTS) {
-        return Judgement::Refused(5);
+    let dimensions = judge_dimensions(
+        reader::state_count(file) as u64,
+        reader::highest_moment(file) as u64,
+    );
+    if let Judgement::Refused(k) = dimensions {
+        return Judgement::Refused(k);
     }
     if length != fitting_length(file) {
         return Judgement::Refused(6);
@@ -126,7 +133,7 @@ fn judge_quantities(file: &[u8], times: &[u32]) -> Rated
     requires { ⌜ Framed (now file) ⌝ }
     ensures { λ r. ⌜ ratedAs r ≡ firstHeld (quantities (modelOf (now (file .entry))) (now (times .entry))) (uniformRate (modelOf (now (file .entry)))) ⌝ }
 {
-    if outside(reader::tolerance(file), MOST_TOLERANCE) {
+    if outside(1, MOST_TOLERANCE, reader::tolerance(file)) {
         return Rated::Refused(7);
     }
     if without_time(file, times) {
@@ -226,7 +233,7 @@ fn judge_times(file: &[u8], rate: u64, times: &[u32], levels: usize, cells: usiz
     ensures { λ r. ⌜ verdict r ≡ judgedBy (listing (now (times .entry)) ++ jumps rate (lastTime (now (times .entry))) ++ room (length (now (times .entry)) * blockSize (now (file .entry))) cells ++ room (length (now (times .entry))) levels) ⌝ }
 {
     let count = times.len();
-    if outside(count as u64, MOST_TIMES as u64) {
+    if outside(1, MOST_TIMES as u64, count as u64) {
         return Judgement::Refused(14);
     }
     if falls(times) {

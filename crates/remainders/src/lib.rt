@@ -61,15 +61,15 @@ fn level_of(file: &[u8], rate: u64) -> u64
 
 // Whether the state is outside 1 to M, n outside 1 to N or r outside 1 to R.
 fn any_outside(sizes: Sizes, level: u64, state: u64, n: u64, r: u64) -> bool
-    ensures { λ b. ⌜ b ≡ (outside state (sizes .states) || outside n level || outside r (sizes .highest)) ⌝ }
+    ensures { λ b. ⌜ b ≡ (outside 1 (sizes .states) state || outside 1 level n || outside 1 (sizes .highest) r) ⌝ }
 {
-    if refusals::outside(state, sizes.states as u64) {
+    if refusals::outside(1, sizes.states as u64, state) {
         return true;
     }
-    if refusals::outside(n, level) {
+    if refusals::outside(1, level, n) {
         return true;
     }
-    refusals::outside(r, sizes.highest as u64)
+    refusals::outside(1, sizes.highest as u64, r)
 }
 
 // The remainders of an accepted file, or nothing.

@@ -1,16 +1,14 @@
--- `refusals::judge_framing` meets its contract: rows 1 to 6. Past a row's test the rows after it answer. Assumes nothing.
+-- `refusals::judge_framing` meets its contract: rows 1 to 3, the dimensions, and row 6. Past a row's test the rows after it answer. Assumes nothing.
 use Prim.Native.Nat.{ℕ, _-_}
-use mathlib.Core.Path.{_≡_, _∙_, sym}
-use mathlib.Core.Bool.{false, _||_}
+use mathlib.Core.Path.{_≡_, refl, _∙_, sym, ap}
 use mathlib.Core.List.{List}
 use native.Mathlib.Omega.{arith}
-use lib.Dec.{eqb, ltb}
 use lib.ListN.{length, drop}
 use borrow.Author.Needs.{needs}
 use borrow.Author.Tests.{lt-ltb, le-ltb}
-use Rattle.definitions.specs.File.{lengthField, stateCount}
-use Rattle.definitions.specs.Rules.{fittingLength, framing, judgedBy}
-use Rattle.laws.specs.RuleLaws.{row-stops, row-passes, none-left, differ, agree}
+use Rattle.definitions.specs.File.{lengthField, stateCount, highestMoment}
+use Rattle.definitions.specs.Rules.{Answer, Rows, dimensions, fittingLength, framing, judgedBy, verdict}
+use Rattle.laws.specs.RuleLaws.{row-stops, row-passes, none-left, differ, agree, andThen, in-parts, none-hold}
 use Rattle.laws.specs.RowLaws.{in-range}
 use Rattle.refusals.proofs.judge_framing.Statement.{statement}
 use Rattle.refusals.proofs.judge_framing.Tie as tie
@@ -18,13 +16,19 @@ use Rattle.refusals.proofs.judge_framing.Tie as tie
 abbrev file : tie.Start → List ℕ
 file start = start .args .file .now
 
--- the rows past the first k answer
-abbrev Left : tie.Start → ℕ → Type 0
-Left start k =
-    judgedBy (framing (start .args .low) (start .args .high) (file start))
-    ≡ judgedBy (drop k (framing (start .args .low) (start .args .high) (file start)))
+-- the rows past the first k
+abbrev past : tie.Start → ℕ → Rows
+past start k = drop k (framing (start .args .low) (start .args .high) (file start))
 
--- from the place past a row's test back to the start
+-- they answer
+abbrev Left : tie.Start → ℕ → Type 0
+Left start k = judgedBy (past start 0) ≡ judgedBy (past start k)
+
+-- rows 4 and 5
+abbrev sizes : tie.Start → Rows
+sizes start = dimensions (stateCount (file start)) (highestMoment (file start))
+
+-- from the place past a row's test, or past the dimensions, back to the start
 abbrev start1 : tie.Else1 → tie.Start
 start1 c = c .before .before
 
@@ -34,14 +38,11 @@ start2 c = start1 (c .before .before)
 abbrev start3 : tie.Else3 → tie.Start
 start3 c = start2 (c .before .before .before)
 
-abbrev start4 : tie.Else4 → tie.Start
+abbrev start4 : tie.After-judge-dimensions → tie.Start
 start4 c = start3 (c .before .before .before)
 
-abbrev start5 : tie.Else5 → tie.Start
-start5 c = start4 (c .before .before .before)
-
-abbrev start6 : tie.Else6 → tie.Start
-start6 c = start5 (c .before .before)
+abbrev start5 : tie.After-enum-told → tie.Start
+start5 c = start4 (c .before .before)
 
 past-1 : (c : tie.Else1) → Left (start1 c) 1
 unfolding framing
@@ -57,27 +58,22 @@ past-3 : (c : tie.Else3) → Left (start3 c) 3
 unfolding framing
 past-3 c =
     past-2 (c .before .before .before)
-    ∙ row-passes 3 _ _ _ (rw (c .before .before .version .ensures) at (sym (c .before .beyond .ensures) ∙ c .if3 .left))
+    ∙ row-passes 3 _ _ _ (rw (c .before .before .version .ensures) at (sym (c .before .outside .ensures) ∙ c .if3 .left))
 
--- M is 1 to 64
-states : (c : tie.Else4) → (eqb (stateCount (file (start4 c))) 0 || ltb 64 (stateCount (file (start4 c)))) ≡ false
-states c = rw (c .before .before .state-count .ensures) at (sym (c .before .outside .ensures) ∙ c .if4 .left)
+-- what is said of the dimensions, M and R
+judged : (c : tie.After-judge-dimensions) → verdict (c .judge-dimensions .result) ≡ judgedBy (sizes (start4 c))
+judged c = rw (c .before .before .state-count .ensures, c .before .highest-moment .ensures) at (c .judge-dimensions .ensures)
 
-past-4 : (c : tie.Else4) → Left (start4 c) 4
+-- then row 6 answers
+in-two : (c : tie.After-judge-dimensions) → judgedBy (past (start4 c) 0) ≡ andThen (verdict (c .judge-dimensions .result)) (judgedBy (past (start4 c) 5))
 unfolding framing
-past-4 c = past-3 (c .before .before .before) ∙ row-passes 4 _ _ _ (states c)
+in-two c =
+    past-3 (c .before .before .before)
+    ∙ in-parts (sizes (start4 c)) (past (start4 c) 5) tt tt
+    ∙ ap (λ (a : Answer (Unit {0})). andThen a (judgedBy (past (start4 c) 5))) (sym (judged c))
 
-past-5 : (c : tie.Else5) → Left (start5 c) 5
-unfolding framing
-past-5 c =
-    past-4 (c .before .before .before)
-    ∙ row-passes 5 _ _ _ (rw (c .before .before .highest-moment .ensures) at (sym (c .before .outside2 .ensures) ∙ c .if5 .left))
-
--- the length field, and what it is compared with
-asked : (c : tie.After-fitting-length) →
-    let start = start5 (c .before) in
-    (lengthField (file start) ≡ c .before .before .before .before .before .before .before .before .before .before .before .length-field .result) × (c .fitting-length .result ≡ fittingLength (file start))
-asked c = (sym (c .before .before .before .before .before .before .before .before .before .before .before .length-field .ensures), c .fitting-length .ensures)
+past-5 : (c : tie.After-enum-told) → Left (start5 c) 5
+past-5 c = in-two (c .before .before) ∙ rw (c .enum-told .given .1) refl
 
 returns : tie.Need-returns
 unfolding framing
@@ -94,35 +90,28 @@ unfolding framing
 returns-3 c =
     sym
     (past-2 (c .before .before .before)
-    ∙ row-stops 3 _ _ _ (rw (c .before .before .version .ensures) at (sym (c .before .beyond .ensures) ∙ c .if3 .taken)))
+    ∙ row-stops 3 _ _ _ (rw (c .before .before .version .ensures) at (sym (c .before .outside .ensures) ∙ c .if3 .taken)))
 
 returns-4 : tie.Need-returns-4
-unfolding framing
-returns-4 c =
-    sym
-    (past-3 (c .before .before .before)
-    ∙ row-stops 4 _ _ _ (rw (c .before .before .state-count .ensures) at (sym (c .before .outside .ensures) ∙ c .if4 .taken)))
+returns-4 c = sym (in-two (c .before .before .before) ∙ rw (c .before .dimensions .given .1) refl)
+
+fitting-length-requires : tie.Need-fitting-length-requires
+fitting-length-requires c κs =
+    let s = file (start5 c) in
+    let none = none-hold (sizes (start5 c)) tt tt (sym (judged (c .before .before)) ∙ ap verdict (c .enum-told .given .1)) in
+    omega (arith, in-range 1 64 (stateCount s) (none .0))
 
 returns-5 : tie.Need-returns-5
 unfolding framing
 returns-5 c =
-    sym
-    (past-4 (c .before .before .before)
-    ∙ row-stops 5 _ _ _ (rw (c .before .before .highest-moment .ensures) at (sym (c .before .outside2 .ensures) ∙ c .if5 .taken)))
+    let s = file (start5 (c .before .before)) in
+    sym (past-5 (c .before .before) ∙ row-stops 6 _ _ _ (differ (lengthField s) (fittingLength s) (λ e. c .if4 .taken (omega arith))))
 
 returns-6 : tie.Need-returns-6
 unfolding framing
 returns-6 c =
-    let given = asked (c .before) in
     let s = file (start5 (c .before .before)) in
-    sym (past-5 (c .before .before) ∙ row-stops 6 _ _ _ (differ (lengthField s) (fittingLength s) (λ e. c .if6 .taken (omega (arith, given, e)))))
-
-returns-7 : tie.Need-returns-7
-unfolding framing
-returns-7 c =
-    let given = asked (c .before) in
-    let s = file (start5 (c .before .before)) in
-    sym (past-5 (c .before .before) ∙ row-passes 6 _ _ _ (agree (lengthField s) (fittingLength s) (omega (arith, given, c .if6 .left))) ∙ none-left tt)
+    sym (past-5 (c .before .before) ∙ row-passes 6 _ _ _ (agree (lengthField s) (fittingLength s) (omega arith)) ∙ none-left tt)
 
 pub judge-framing-spec : {M : Type 1} → statement M
 judge-framing-spec =
@@ -137,10 +126,10 @@ judge-framing-spec =
     returns-3
     (λ c κs. search needs)
     (λ c κs. search needs)
+    (λ c κs. search needs)
+    (λ c. search needs)
     returns-4
-    (λ c κs. search needs)
-    (λ c κs. search needs)
+    (λ c. search needs)
+    fitting-length-requires
     returns-5
-    (λ c κs. omega (arith, in-range (stateCount (file (start5 c))) 64 (states (c .before .before .before))))
-    returns-6
-    returns-7)
+    returns-6)

@@ -44,19 +44,19 @@ abbrev start-room : tie.After-judge-room → tie.Start
 start-room c = start12 (c .before .before .before)
 
 -- past its test there are 1 to 8 times
-counted : (c : tie.Else1) → outside (length (times (start14 c))) 8 ≡ false
+counted : (c : tie.Else1) → outside 1 8 (length (times (start14 c))) ≡ false
 counted c = sym (c .before .outside .ensures) ∙ c .if1 .left
 
 past-14 : (c : tie.Else1) → Left (start14 c) 1
 unfolding listing
-past-14 c = row-passes 14 (outside (length (times (start14 c))) 8) _ _ (counted c)
+past-14 c = row-passes 14 (outside 1 8 (length (times (start14 c)))) _ _ (counted c)
 
 past-15 : (c : tie.Else2) → Left (start15 c) 2
 unfolding listing
 past-15 c = past-14 (c .before .before) ∙ row-passes 15 _ _ _ (sym (c .before .falls .ensures) ∙ c .if2 .left)
 
 count : (c : tie.Else1) → (1 ≤ length (times (start14 c))) × (length (times (start14 c)) ≤ 8)
-count c = in-range (length (times (start14 c))) 8 (counted c)
+count c = in-range 1 8 (length (times (start14 c))) (counted c)
 
 -- the rows in parts: the jumps, then the room for the blocks, then that for the levels
 past-15-parts : (c : tie.Else2) →
@@ -92,7 +92,7 @@ returns : tie.Need-returns
 unfolding listing
 returns c =
     let start = c .before .before .before .before in
-    let stopped : judgedBy (listed start) ≡ refused 14 = row-stops 14 (outside (length (times start)) 8) _ _ (sym (c .before .outside .ensures) ∙ c .if1 .taken) in
+    let stopped : judgedBy (listed start) ≡ refused 14 = row-stops 14 (outside 1 8 (length (times start))) _ _ (sym (c .before .outside .ensures) ∙ c .if1 .taken) in
     sym stopped
 
 returns-2 : tie.Need-returns-2

@@ -22,7 +22,7 @@ tested : (c : tie.After-any-outside) →
 tested c =
     let args = c .before .before .before .before .before .before .args in
     c .any-outside .ensures
-    ∙ ap₂ (λ (z : Sizes) (N : ℕ). outside (args .state) (z .states) || outside (args .n) N || outside (args .r) (z .highest)) (c .before .before .sizes-of .ensures) (c .before .level-of .ensures)
+    ∙ ap₂ (λ (z : Sizes) (N : ℕ). outside 1 (z .states) (args .state) || outside 1 N (args .n) || outside 1 (z .highest) (args .r)) (c .before .before .sizes-of .ensures) (c .before .level-of .ensures)
 
 returns : tie.Need-returns
 returns c =
