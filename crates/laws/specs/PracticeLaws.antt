@@ -25,8 +25,8 @@ use Rattle.laws.specs.ChainLaws.{other-version}
 use Rattle.laws.specs.ListLaws.{length-firsts, firsts-same}
 use Rattle.laws.specs.BlockLaws.{firsts-further}
 use Rattle.laws.specs.WordLaws.{words-first, firsts-below}
-use Rattle.laws.specs.RuleLaws.{NoneHold, none-hold, none-together, all-pass}
-use Rattle.laws.specs.RowLaws.{in-range, is-inside, no-start, rewards-within, some-reward, sums-within, enough}
+use Rattle.laws.specs.RuleLaws.{NoneHold, none-together, all-pass}
+use Rattle.laws.specs.RowLaws.{in-range, is-inside, in-dimensions, no-start, rewards-within, some-reward, sums-within, enough}
 use Rattle.laws.specs.Acceptance.{judgement-in-parts}
 use Rattle.laws.specs.MomentLaws.{outcome-accepted}
 use Rattle.laws.specs.WrittenLaws.{stopped-by-table, stopped-by-room, is-written, was-written}
@@ -254,12 +254,6 @@ module _ (M R seed : ℕ) (row : NoneHold (dimensions M R)) where
     where
       block : blockSize t ≤ cells
       block = omega (arith, ap₂ (λ (a b : ℕ). (a + distributions t) * b) states-are highest-is, ap (λ (d : ℕ). (M + d) * R) no-distribution)
-
--- what rows 4 and 5 let pass
-pub in-dimensions : (M R : ℕ) → judgedBy (dimensions M R) ≡ accepted tt → ((1 ≤ M) × (M ≤ 64)) × ((1 ≤ R) × (R ≤ 8))
-in-dimensions M R passed =
-    let row = none-hold (dimensions M R) (tt {0}) tt passed in
-    (in-range 1 64 M (row .0), in-range 1 8 R (row .1 .0))
 
 -- the call: refused by rows 4 and 5, by row 13, or the file
 module _ (M R seed lent : ℕ) where

@@ -1,4 +1,4 @@
--- The test of a number's limits, and single rows of the tables, from the numbers that they compare: 8 and 15, of a list of times, 16, and 9 to 13.
+-- The test of a number's limits, and single rows of the tables, from the numbers that they compare: 4 and 5, 8 and 15, of a list of times, 16, and 9 to 13.
 use Prim.Native.Nat.{ℕ, zero, suc, _-_, _≤_, _<_}
 use native.Mathlib.Omega.{arith}
 use native.Mathlib.Decide.{decLe}
@@ -11,9 +11,9 @@ use borrow.Author.Tests.{le-leb, lt-leb, lt-ltb, le-ltb, ltb-false, eqb-true, no
 use Rattle.definitions.specs.Sums.{sum, largest, anyAbove}
 use Rattle.definitions.specs.File.{stateCount, rewardField}
 use Rattle.definitions.specs.Chain.{Model, modelOf, rowSum, uniformRate, maxReward}
-use Rattle.definitions.specs.Rules.{accepted, refused, outside, misweighted, startsAtZero, fallsUpTo, jumps, room, judgedBy}
+use Rattle.definitions.specs.Rules.{accepted, refused, outside, dimensions, misweighted, startsAtZero, fallsUpTo, jumps, room, judgedBy}
 use Rattle.laws.specs.SumLaws.{any-largest}
-use Rattle.laws.specs.RuleLaws.{row-stops, row-passes, none-left}
+use Rattle.laws.specs.RuleLaws.{row-stops, row-passes, none-left, none-hold}
 
 -- neither of two tests holds
 pub neither : (a b : Bool) → (a || b) ≡ false → (a ≡ false) × (b ≡ false)
@@ -34,6 +34,12 @@ is-inside low high x l h = ap₂ _||_ (le-ltb x low l) (le-ltb high x h)
 -- with an equal limit the test says the same
 pub same-limit : {high' : ℕ} (low high x : ℕ) → high' ≡ high → outside low high' x ≡ outside low high x
 same-limit low high x e = ap (λ (k : ℕ). outside low k x) e
+
+-- what rows 4 and 5 let pass
+pub in-dimensions : (M R : ℕ) → judgedBy (dimensions M R) ≡ accepted tt → ((1 ≤ M) × (M ≤ 64)) × ((1 ≤ R) × (R ≤ 8))
+in-dimensions M R passed =
+    let row = none-hold (dimensions M R) (tt {0}) tt passed in
+    (in-range 1 64 M (row .0), in-range 1 8 R (row .1 .0))
 
 -- row 8: a list without a time, and one with a first time
 pub without-a-time : (t : List ℕ) → length t ≡ 0 → startsAtZero t ≡ false

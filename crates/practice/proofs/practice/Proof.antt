@@ -9,7 +9,8 @@ use lib.ListN.{length}
 use Rattle.definitions.specs.Rules.{Answer, accepted, dimensions, judgedBy, verdict}
 use Rattle.definitions.specs.Written.{countOf, bytesAfter}
 use Rattle.definitions.specs.Practice.{practiceFile}
-use Rattle.laws.specs.PracticeLaws.{in-dimensions, dealing-refused, no-room-to-deal, dealing-accepted, dealt-well}
+use Rattle.laws.specs.RowLaws.{in-dimensions}
+use Rattle.laws.specs.PracticeLaws.{dealing-refused, no-room-to-deal, dealing-accepted, dealt-well}
 use Rattle.practice.proofs.practice.Statement.{statement}
 use Rattle.practice.proofs.practice.Tie as tie
 

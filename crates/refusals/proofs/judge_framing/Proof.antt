@@ -8,8 +8,8 @@ use borrow.Author.Needs.{needs}
 use borrow.Author.Tests.{lt-ltb, le-ltb}
 use Rattle.definitions.specs.File.{lengthField, stateCount, highestMoment}
 use Rattle.definitions.specs.Rules.{Answer, Rows, dimensions, fittingLength, framing, judgedBy, verdict}
-use Rattle.laws.specs.RuleLaws.{row-stops, row-passes, none-left, differ, agree, andThen, in-parts, none-hold}
-use Rattle.laws.specs.RowLaws.{in-range}
+use Rattle.laws.specs.RuleLaws.{row-stops, row-passes, none-left, differ, agree, andThen, in-parts}
+use Rattle.laws.specs.RowLaws.{in-dimensions}
 use Rattle.refusals.proofs.judge_framing.Statement.{statement}
 use Rattle.refusals.proofs.judge_framing.Tie as tie
 
@@ -98,8 +98,7 @@ returns-4 c = sym (in-two (c .before .before .before) ∙ rw (c .before .dimensi
 fitting-length-requires : tie.Need-fitting-length-requires
 fitting-length-requires c κs =
     let s = file (start5 c) in
-    let none = none-hold (sizes (start5 c)) tt tt (sym (judged (c .before .before)) ∙ ap verdict (c .enum-told .given .1)) in
-    omega (arith, in-range 1 64 (stateCount s) (none .0))
+    omega (arith, in-dimensions (stateCount s) (highestMoment s) (sym (judged (c .before .before)) ∙ ap verdict (c .enum-told .given .1)))
 
 returns-5 : tie.Need-returns-5
 unfolding framing
