@@ -2,7 +2,7 @@
 //! what its inputs must reach.
 
 use crate::lent::Lent;
-use crate::models::{self, Input, MoveInput, RemaindersInput, SeriesInput};
+use crate::models::{self, Input, MoveInput, PracticeInput, RemaindersInput, SeriesInput};
 use crate::{independent, library};
 
 /// The number that an accepting call returns, or the row that refuses.
@@ -62,7 +62,8 @@ pub trait Case {
     /// Those of the ends that the input came to.
     fn ends(&self, answer: Answer, written: &Written) -> Vec<&'static str>;
 
-    fn file(&self) -> &[u8];
+    /// The file that is lent, where one is.
+    fn file(&self) -> Option<&[u8]>;
 
     /// All but the file, in words.
     fn lent(&self) -> String;
@@ -226,8 +227,8 @@ impl Case for Input {
         ends
     }
 
-    fn file(&self) -> &[u8] {
-        &self.file
+    fn file(&self) -> Option<&[u8]> {
+        Some(&self.file)
     }
 
     fn lent(&self) -> String {
@@ -325,8 +326,8 @@ impl Case for SeriesInput {
         ends
     }
 
-    fn file(&self) -> &[u8] {
-        &self.file
+    fn file(&self) -> Option<&[u8]> {
+        Some(&self.file)
     }
 
     fn lent(&self) -> String {
@@ -441,8 +442,8 @@ impl Case for RemaindersInput {
         ends
     }
 
-    fn file(&self) -> &[u8] {
-        &self.file
+    fn file(&self) -> Option<&[u8]> {
+        Some(&self.file)
     }
 
     fn lent(&self) -> String {
@@ -552,11 +553,132 @@ impl<const TO: u8> Case for MoveInput<TO> {
         ends
     }
 
-    fn file(&self) -> &[u8] {
-        &self.file
+    fn file(&self) -> Option<&[u8]> {
+        Some(&self.file)
     }
 
     fn lent(&self) -> String {
         format!("{} bytes for the moved file", self.out)
+    }
+}
+
+/// Borders of M and of R, in the order of `models::borders`, the other of the two inside.
+const PRACTICE_BORDERS: [[&str; 7]; 2] = [
+    ["M 0", "M 1", "M 64", "M 65", "M 2^32 + 1", "M 2^32 + 64", "M 2^64 - 1"],
+    ["R 0", "R 1", "R 8", "R 9", "R 2^32 + 1", "R 2^32 + 8", "R 2^64 - 1"],
+];
+const BOTH_OUTSIDE: &str = "4, R outside too";
+const FOUR_AND_NO_BYTE: &str = "4, no byte lent";
+const FIVE_AND_NO_BYTE: &str = "5, no byte lent";
+const SEEDS: [(&str, u32); 4] = [("seed 0", 0), ("seed 1", 1), ("seed 2^31", 1 << 31), ("seed 2^32 - 1", u32::MAX)];
+const TIME_1: &str = "time 1";
+const TIME_16: &str = "time 16";
+const LOW_REWARD: &str = "first reward 1";
+const HIGH_REWARD: &str = "first reward 65,536";
+const LOW_RATE: &str = "a later reward or rate 0";
+const HIGH_RATE: &str = "a later reward or rate 65,535";
+
+impl PracticeInput {
+    /// Whether M and R are inside.
+    fn inside(&self) -> [bool; 2] {
+        [(1..=64).contains(&self.states), (1..=8).contains(&self.highest)]
+    }
+
+    /// Those of the ends by M and R alone.
+    fn border_ends(&self) -> Vec<&'static str> {
+        let inside = self.inside();
+        let mut ends = vec![];
+        for (k, (number, limit)) in [(self.states, 64), (self.highest, 8)].into_iter().enumerate() {
+            if inside[1 - k] {
+                let borders = PRACTICE_BORDERS[k].into_iter().zip(models::borders(limit));
+                ends.extend(borders.filter(|(_, border)| *border == number).map(|(name, _)| name));
+            }
+        }
+        ends
+    }
+
+    /// Those of the ends by the seed number and the file.
+    fn drawn_ends(&self, file: &[u64]) -> Vec<&'static str> {
+        let word = |bytes: &[u64]| bytes.iter().fold(0, |sum, byte| sum << 8 | byte);
+        let words: Vec<u64> = file[9..].chunks(4).map(word).collect();
+        let reached = [
+            (TIME_1, words[0] == 1),
+            (TIME_16, words[0] == 16),
+            (LOW_REWARD, words[1] == 1),
+            (HIGH_REWARD, words[1] == 65_536),
+            (LOW_RATE, words[2..].contains(&0)),
+            (HIGH_RATE, words[2..].contains(&65_535)),
+        ];
+        let seeds = SEEDS.map(|(name, seed)| (name, self.seed == seed));
+        reached.into_iter().chain(seeds).filter(|(_, reached)| *reached).map(|(name, _)| name).collect()
+    }
+}
+
+impl Case for PracticeInput {
+    const CALL: &'static str = "practice";
+    const ROWS: &'static [u8] = &[4, 5, 13];
+    const ENDS: Ends = &[
+        &[EXACT, MORE, NO_BYTE, ONE_BYTE_SHORT],
+        &PRACTICE_BORDERS[0],
+        &PRACTICE_BORDERS[1],
+        &[BOTH_OUTSIDE, FOUR_AND_NO_BYTE, FIVE_AND_NO_BYTE],
+        &[SEEDS[0].0, SEEDS[1].0, SEEDS[2].0, SEEDS[3].0],
+        &[TIME_1, TIME_16, LOW_REWARD, HIGH_REWARD, LOW_RATE, HIGH_RATE],
+    ];
+    type Function = fn(u64, u64, u32, &mut [u8]) -> Answer;
+    const PROVED: Self::Function = library::practice;
+    const INDEPENDENT: Self::Function = independent::practice;
+
+    fn run(&self, call: Self::Function) -> Outcome {
+        let mut out = Lent::marked("byte out", self.out);
+        let answer = call(self.states, self.highest, self.seed, out.slice_mut());
+        let count = answer.map_or(0, |count| count as usize);
+        Outcome { answer, written: out.written(count).map(|written| vec![written]) }
+    }
+
+    /// The file is accepted with M × R cells, and can be moved to version 2.
+    fn accepted(&self, count: u64, written: &Written) -> Result<(), String> {
+        if count != models::practice_length(self.states) as u64 {
+            return Err(format!("{count} bytes, and the file has {}", models::practice_length(self.states)));
+        }
+        let file: Vec<u8> = written[0].1.iter().map(|&byte| byte as u8).collect();
+        let cells = (self.states * self.highest) as usize;
+        let moved = file.len() + 4 * self.states as usize;
+        let as_input = Input { file: file.clone(), cells }.run(library::calculate);
+        as_input.answer.map_err(|row| format!("calculate refuses the file by row {row}"))?;
+        at_most_one(&as_input.written?[0].1)?;
+        match (MoveInput::<2> { file, out: moved }).run(library::to_version_2).answer {
+            Ok(count) if count == moved as u64 => Ok(()),
+            answer => Err(format!("to_version_2 answers {answer:?} of the file")),
+        }
+    }
+
+    fn ends(&self, answer: Answer, written: &Written) -> Vec<&'static str> {
+        let mut ends = self.border_ends();
+        match answer {
+            Ok(count) => {
+                ends.push(if count == self.out as u64 { EXACT } else { MORE });
+                ends.extend(self.drawn_ends(&written[0].1));
+            }
+            Err(4) => {
+                ends.extend((self.inside() == [false; 2]).then_some(BOTH_OUTSIDE));
+                ends.extend((self.out == 0).then_some(FOUR_AND_NO_BYTE));
+            }
+            Err(5) => ends.extend((self.out == 0).then_some(FIVE_AND_NO_BYTE)),
+            Err(_) => {
+                ends.extend((self.out == 0).then_some(NO_BYTE));
+                ends.extend((self.out + 1 == models::practice_length(self.states)).then_some(ONE_BYTE_SHORT));
+            }
+        }
+        ends
+    }
+
+    fn file(&self) -> Option<&[u8]> {
+        None
+    }
+
+    fn lent(&self) -> String {
+        let PracticeInput { states, highest, seed, out } = self;
+        format!("M {states}, R {highest}, seed number {seed}, {out} bytes for the file")
     }
 }

@@ -1,6 +1,6 @@
 //! The calculation of document 01 with the last division of document 02's S-1, for the file's own time or for a list of
-//! times (S-3), the remainders of its divisions (S-4), and files with a starting distribution and their converter (S-5),
-//! written from the papers alone, in plain u128 arithmetic.
+//! times (S-3), the remainders of its divisions (S-4), files with a starting distribution and their converter (S-5), and
+//! practice files (S-6), written from the papers alone, in plain u128 arithmetic.
 //!
 //! Nothing here was taken from the proved code: not its helper, not its order of work. Every product is
 //! formed whole in 128 bits and divided once, so each line can be read against the paper's sentence.
@@ -389,22 +389,28 @@ pub fn remainders(
     Ok(0)
 }
 
+/// Writes to `out` the file with these bytes after its length. Returns the count of its bytes; or 13, and writes nothing,
+/// where `out` is too short for them.
+fn write(after: &[u8], out: &mut [u8]) -> Result<u64, u8> {
+    // the length, the count of all bytes after it
+    let mut file = (after.len() as u16).to_be_bytes().to_vec();
+    file.extend(after);
+    // 13: the output slice is too short
+    if out.len() < file.len() {
+        return Err(13);
+    }
+    out[..file.len()].copy_from_slice(&file);
+    Ok(file.len() as u64)
+}
+
 /// Writes to `out` the moved file: the version, M to T as in `file`, the starting weights, and `rest`, the bytes from the
-/// rewards on. Returns the count of its bytes; or 13, and writes nothing, where `out` is too short for them.
-fn write(file: &[u8], version: u8, start: &[u32], rest: &[u8], out: &mut [u8]) -> Result<u64, u8> {
+/// rewards on.
+fn write_moved(file: &[u8], version: u8, start: &[u32], rest: &[u8], out: &mut [u8]) -> Result<u64, u8> {
     let mut after = vec![version];
     after.extend(&file[3..13]);
     after.extend(start.iter().flat_map(|weight| weight.to_be_bytes()));
     after.extend(rest);
-    // the length, the count of all bytes after it
-    let mut moved = (after.len() as u16).to_be_bytes().to_vec();
-    moved.extend(after);
-    // 13: the output slice is too short
-    if out.len() < moved.len() {
-        return Err(13);
-    }
-    out[..moved.len()].copy_from_slice(&moved);
-    Ok(moved.len() as u64)
+    write(&after, out)
 }
 
 /// Judges a version 1 file, and where no row of the table holds writes it in version 2, with all weight on state 1, and
@@ -414,7 +420,7 @@ pub fn to_version_2(file: &[u8], out: &mut [u8]) -> Result<u64, u8> {
     let model = read(file, &[1], None)?;
     let mut start = vec![0; model.states()];
     start[0] = 1_000_000;
-    write(file, 2, &start, &file[13..], out)
+    write_moved(file, 2, &start, &file[13..], out)
 }
 
 /// Judges a version 2 file, and where no row of the table holds writes it in version 1, without its weights, and returns
@@ -426,5 +432,43 @@ pub fn to_version_1(file: &[u8], out: &mut [u8]) -> Result<u64, u8> {
     if model.start[1..].iter().any(|&weight| weight > 0) {
         return Err(17);
     }
-    write(file, 1, &[], &file[13 + 4 * model.states()..], out)
+    write_moved(file, 1, &[], &file[13 + 4 * model.states()..], out)
+}
+
+/// The draws of a seed number's stream, without end.
+fn draws(seed: u32) -> impl Iterator<Item = u32> {
+    // the seed number is the first "previous"
+    let mut previous = u128::from(seed);
+    std::iter::repeat_with(move || {
+        // next = previous × 1664525 + 1013904223, cut to 32 bits
+        previous = (previous * 1_664_525 + 1_013_904_223) % (1 << 32);
+        // a draw is the upper 16 bits after the step
+        (previous / (1 << 16)) as u32
+    })
+}
+
+/// Judges M and R, and where no row of the table holds writes the practice file of the seed number and returns the count
+/// of bytes. Otherwise returns the row, and writes nothing.
+#[allow(dead_code)] // not every program that uses this file calls it
+pub fn practice(states: u64, highest: u64, seed: u32, out: &mut [u8]) -> Result<u64, u8> {
+    // 4: M is 0 or above 64
+    if states == 0 || states > 64 {
+        return Err(4);
+    }
+    // 5: R is 0 or above 8
+    if highest == 0 || highest > 8 {
+        return Err(5);
+    }
+    let states = states as usize;
+    let rates = states * (states - 1);
+    let drawn: Vec<u32> = draws(seed).take(1 + states + rates).collect();
+    // tolerance 10,000, and time 1 plus the first draw over 4,096, down
+    let mut words = vec![10_000, 1 + drawn[0] / 4_096];
+    // each reward and each rate, the first reward plus 1
+    words.extend(&drawn[1..]);
+    words[2] += 1;
+    // version 1, M and R before them
+    let mut after = vec![1, states as u8, highest as u8];
+    after.extend(words.iter().flat_map(|word| word.to_be_bytes()));
+    write(&after, out)
 }

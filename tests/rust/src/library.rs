@@ -31,6 +31,7 @@ extern "C" {
     ) -> u64;
     fn kuldrepso_to_version_2(file: *const u8, file_length: usize, out: *mut u8, out_length: usize) -> u64;
     fn kuldrepso_to_version_1(file: *const u8, file_length: usize, out: *mut u8, out_length: usize) -> u64;
+    fn kuldrepso_practice(states: u64, highest: u64, seed: u32, out: *mut u8, out_length: usize) -> u64;
 }
 
 // SAFETY of every call: it asks nothing of the elements of a slice or of their count, nor of a number. A Rust slice's
@@ -83,6 +84,13 @@ pub fn to_version_2(file: &[u8], out: &mut [u8]) -> Result<u64, u8> {
 #[allow(dead_code)] // not every program that uses this file calls it
 pub fn to_version_1(file: &[u8], out: &mut [u8]) -> Result<u64, u8> {
     accepted(unsafe { kuldrepso_to_version_1(file.as_ptr(), file.len(), out.as_mut_ptr(), out.len()) })
+}
+
+/// Judges M and R; the count of bytes where they are accepted, with the practice file of the seed number in `out`, or the
+/// row that stops them.
+#[allow(dead_code)] // not every program that uses this file calls it
+pub fn practice(states: u64, highest: u64, seed: u32, out: &mut [u8]) -> Result<u64, u8> {
+    accepted(unsafe { kuldrepso_practice(states, highest, seed, out.as_mut_ptr(), out.len()) })
 }
 
 /// An answer, or the row that it refuses by.

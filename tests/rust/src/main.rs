@@ -12,7 +12,7 @@ mod models;
 
 use calls::{Answer, Case, Outcome};
 use library::{GIVEN, NONE};
-use models::{Chance, Fields, Input, MoveInput, RemaindersInput, SeriesInput};
+use models::{Chance, Fields, Input, MoveInput, PracticeInput, RemaindersInput, SeriesInput};
 use std::collections::BTreeMap;
 use std::panic::{catch_unwind, AssertUnwindSafe};
 use std::path::{Path, PathBuf};
@@ -37,6 +37,18 @@ const B2: [u8; 37] = [
 /// The start figures by hand: a quarter of state 1's moment and three quarters of state 2's.
 const B2_FIGURES: [u64; 6] =
     [718_750_000_000, 612_500_000_000, 281_250_000_000, 175_000_000_000, 390_625_000_000, 284_375_000_000];
+
+/// Practice files by hand from document 02's S-6, whose arithmetic is in tests/c/calls.c: of seed number 0 with M = R = 1,
+/// of 1 with M = R = 2, and of 2^32 − 1 with M = 2 and R = 1.
+const DEALT_0: [u8; 17] = [0, 0x0F, 1, 1, 1, 0, 0, 0x27, 0x10, 0, 0, 0, 4, 0, 0, 0x47, 0x51];
+const DEALT_1: [u8; 29] = [
+    0, 0x1B, 1, 2, 2, 0, 0, 0x27, 0x10, 0, 0, 0, 4, 0, 0, 0x5E, 0x89, 0, 0, 0x81, 0x16, 0, 0, 0xB4, 0x73, 0, 0, 0x0C,
+    0xF0,
+];
+const DEALT_LAST: [u8; 29] = [
+    0, 0x1B, 1, 2, 1, 0, 0, 0x27, 0x10, 0, 0, 0, 4, 0, 0, 0x30, 0x18, 0, 0, 0x22, 0x83, 0, 0, 0xA1, 0x7F, 0, 0, 0xB7,
+    0xB5,
+];
 
 /// What was compared, and how the inputs ended.
 struct Tally {
@@ -65,14 +77,19 @@ impl Tally {
     }
 
     fn stop<C: Case>(&self, name: &str, input: &C, what: &str) -> ! {
-        let file = self.save.join("difference.model");
-        let saved = match std::fs::write(&file, input.file()) {
-            Ok(()) => format!("the file is saved as {}", file.display()),
-            Err(error) => format!("the file could not be saved: {error}"),
-        };
+        let saved = input.file().map_or(String::new(), |file| self.saved(file));
         let (call, lent) = (C::CALL, input.lent());
-        println!("rust comparison: input {} ({call}, {name}, {lent}): {what}; {saved}", self.inputs + 1);
+        println!("rust comparison: input {} ({call}, {name}, {lent}): {what}{saved}", self.inputs + 1);
         exit(1);
+    }
+
+    /// Saves the file of a difference; where it is, in words.
+    fn saved(&self, content: &[u8]) -> String {
+        let file = self.save.join("difference.model");
+        match std::fs::write(&file, content) {
+            Ok(()) => format!("; the file is saved as {}", file.display()),
+            Err(error) => format!("; the file could not be saved: {error}"),
+        }
     }
 
     /// The papers' own answer for an input, of both calculations, with what is written to each lent slice.
@@ -500,6 +517,37 @@ fn to_version_1_papers(tally: &mut Tally) {
     two_rows(tally, 2, |file, rows| MoveInput::<1> { file, out: or_short(29, rows) });
 }
 
+/// Document 02's S-6: the files by hand with every number of bytes lent, then each row of its table, with enough bytes and
+/// with none, and of each two that hold the first.
+fn practice_papers(tally: &mut Tally) {
+    for (states, highest, seed, file) in [(1, 1, 0, &DEALT_0[..]), (2, 2, 1, &DEALT_1), (2, 1, u32::MAX, &DEALT_LAST)] {
+        let words: Vec<u64> = file.iter().map(|&byte| u64::from(byte)).collect();
+        for out in 0..=file.len() + 4 {
+            let input = PracticeInput { states, highest, seed, out };
+            if out < file.len() {
+                tally.hand_checked("by hand", &input, Err(13), &[&[]]);
+            } else {
+                tally.hand_checked("by hand", &input, Ok(file.len() as u64), &[&words]);
+            }
+        }
+    }
+    let outside = [0, 65, 1 << 32, (1 << 32) + 3, u64::MAX];
+    for (seed, out) in [(0, 16_653), (1, 17), (1 << 31, 16), (u32::MAX, 0)] {
+        for states in outside {
+            for highest in [1, 8, 9].into_iter().chain(outside) {
+                let input = PracticeInput { states, highest, seed, out };
+                tally.hand_checked("M outside", &input, Err(4), &[&[]]);
+            }
+        }
+        for states in [1, 9, 64] {
+            for highest in [9].into_iter().chain(outside) {
+                let input = PracticeInput { states, highest, seed, out };
+                tally.hand_checked("R outside", &input, Err(5), &[&[]]);
+            }
+        }
+    }
+}
+
 /// Longer than the length field can say: the field agrees with the low 16 bits of the count.
 fn too_long(file: &[u8]) -> Vec<u8> {
     let mut file = file.to_vec();
@@ -702,6 +750,50 @@ fn moves_large<const TO: u8>(tally: &mut Tally, chance: &mut Chance) {
     }
 }
 
+/// M and R at their borders and past them; every number of bytes lent for the file.
+fn practice_sweeps(tally: &mut Tally, chance: &mut Chance) {
+    for states in models::borders(64) {
+        for highest in models::borders(8) {
+            for out in [0, 16, 17, 16_396, 16_397, 16_653] {
+                let input = PracticeInput { states, highest, seed: chance.next() as u32, out };
+                tally.compare("borders", &input);
+            }
+        }
+    }
+    for states in 1..=6 {
+        for out in 0..=models::practice_length(states) + 3 {
+            let input = PracticeInput { states, highest: chance.between(1, 8), seed: chance.next() as u32, out };
+            tally.compare("every number of bytes", &input);
+        }
+    }
+}
+
+/// Every M, with the least R, the highest and one between: as many bytes as the file takes, and one less.
+fn practice_large(tally: &mut Tally, chance: &mut Chance) {
+    for states in 1..=64 {
+        let out = models::practice_length(states);
+        for highest in [1, states % 8 + 1, 8] {
+            for seed in [0, 1, 1 << 31, u32::MAX, chance.next() as u32] {
+                let whole = PracticeInput { states, highest, seed, out };
+                tally.compare("every number of states", &whole);
+                tally.compare("a byte too few", &PracticeInput { out: out - 1, ..whole });
+            }
+        }
+    }
+}
+
+/// Seed numbers with a first draw about every multiple of 4,096, where the time changes, and with a second draw, the first
+/// reward's, at its ends.
+fn practice_draws(tally: &mut Tally, chance: &mut Chance) {
+    let about = (1..16).flat_map(|k| [4_096 * k - 1, 4_096 * k]).chain([0, 65_535]);
+    for (draw, steps) in about.map(|draw| (draw, 1)).chain([(0, 2), (65_535, 2)]) {
+        for low in [0, 65_535, chance.between(1, 65_534) as u32] {
+            let seed = models::seed_before(draw << 16 | low, steps);
+            tally.compare("a draw at a border", &PracticeInput { states: 3, highest: 2, seed, out: 49 });
+        }
+    }
+}
+
 /// The file of that name, with the name.
 fn stored(name: String) -> (String, Vec<u8>) {
     match std::fs::read(Path::new(&name)) {
@@ -831,6 +923,18 @@ fn compare_to_version_1(tally: &mut Tally, chance: &mut Chance, plan: &Plan) {
     compare_moves::<1>(tally, chance, plan);
 }
 
+fn compare_practice(tally: &mut Tally, chance: &mut Chance, plan: &Plan) {
+    let seed = plan.seed;
+    practice_papers(tally);
+    practice_sweeps(tally, chance);
+    practice_draws(tally, chance);
+    practice_large(tally, chance);
+    for k in 0..plan.count {
+        let input = models::practice(chance);
+        tally.compare(&format!("seed {seed}, practice {k}"), &input);
+    }
+}
+
 fn main() {
     let mut plan = Plan { seed: 1869, count: 20_000, files: vec![] };
     let mut tally = Tally { save: PathBuf::from("."), inputs: 0, ends: BTreeMap::new() };
@@ -851,13 +955,15 @@ fn main() {
     compare_remainders(&mut tally, &mut chance, &plan);
     compare_to_version_2(&mut tally, &mut chance, &plan);
     compare_to_version_1(&mut tally, &mut chance, &plan);
+    compare_practice(&mut tally, &mut chance, &plan);
 
     tally.print::<Input>(plan.seed);
     tally.print::<SeriesInput>(plan.seed);
     tally.print::<RemaindersInput>(plan.seed);
     tally.print::<MoveInput<2>>(plan.seed);
     tally.print::<MoveInput<1>>(plan.seed);
-    println!("rust comparison: {} inputs of five calls, all equal", grouped(tally.inputs));
+    tally.print::<PracticeInput>(plan.seed);
+    println!("rust comparison: {} inputs of six calls, all equal", grouped(tally.inputs));
 }
 
 fn usage(word: &str) -> ! {

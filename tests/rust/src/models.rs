@@ -1,5 +1,5 @@
 //! Inputs from a seed: model files of both versions, whole and damaged, each with a number of answer cells; lists of times
-//! for them; states, n and r; and numbers of bytes for moved files.
+//! for them; states, n and r; numbers of bytes for moved files; and numbers for practice files.
 
 use crate::independent;
 use std::collections::BTreeSet;
@@ -142,6 +142,19 @@ pub struct MoveInput<const TO: u8> {
 impl<const TO: u8> MoveInput<TO> {
     /// The version that is moved.
     pub const FROM: u8 = 3 - TO;
+}
+
+/// One input of the call for practice files: M, R and the seed number, and how many bytes are lent for the file.
+pub struct PracticeInput {
+    pub states: u64,
+    pub highest: u64,
+    pub seed: u32,
+    pub out: usize,
+}
+
+/// The bytes of a practice file of so many states.
+pub fn practice_length(states: u64) -> usize {
+    13 + 4 * (states * states) as usize
 }
 
 /// The sum of the starting weights.
@@ -375,14 +388,19 @@ fn chance_byte(fields: &Fields) -> u8 {
     (fields.time as u8).max(3)
 }
 
+/// A low number of states.
+fn few(chance: &mut Chance) -> u64 {
+    match chance.between(0, 9) {
+        0 => 1,
+        1..=6 => chance.between(2, 4),
+        7 | 8 => chance.between(5, 7),
+        _ => chance.between(8, 12),
+    }
+}
+
 /// A model of few states that is accepted.
 fn few_states(chance: &mut Chance, version: u8) -> Fields {
-    let states = match chance.between(0, 9) {
-        0 => 1,
-        1..=6 => chance.between(2, 4) as u8,
-        7 | 8 => chance.between(5, 7) as u8,
-        _ => chance.between(8, 12) as u8,
-    };
+    let states = few(chance) as u8;
     let highest = chance.between(1, 8) as u8;
     accepted(chance, version, states, highest)
 }
@@ -630,6 +648,41 @@ pub fn moves<const TO: u8>(chance: &mut Chance, k: usize) -> MoveInput<TO> {
 pub fn whole_move<const TO: u8>(chance: &mut Chance, states: u8, highest: u8) -> MoveInput<TO> {
     let fields = movable::<TO>(chance, states, highest);
     MoveInput { file: fields.bytes(), out: fields.length_in(TO) }
+}
+
+/// The seed number from which that many steps of the stream lead to `word`: 4276115653 × 1664525 is 1 in 32 bits.
+pub fn seed_before(word: u32, steps: usize) -> u32 {
+    (0..steps).fold(word, |next, _| next.wrapping_sub(1_013_904_223).wrapping_mul(4_276_115_653))
+}
+
+/// A seed number; often one at the borders, or one with a draw at the borders among the first `draws` of its stream.
+fn seed(chance: &mut Chance, draws: usize) -> u32 {
+    let multiple = 4_096 * chance.between(0, 16);
+    let draw = chance.of(&[multiple.min(65_535), multiple.saturating_sub(1), 0, 65_535]) as u32;
+    let word = draw << 16 | chance.between(0, 65_535) as u32;
+    match chance.between(0, 4) {
+        0 => chance.of(&[0, 1, 1 << 31, u32::MAX]),
+        1 => seed_before(word, 1),
+        2 => seed_before(word, chance.between(1, draws as u64) as usize),
+        _ => chance.next() as u32,
+    }
+}
+
+/// A low M, R and a seed number, with a number of bytes for the file, often at the border of row 13. M may be outside, or
+/// R, or both.
+pub fn practice(chance: &mut Chance) -> PracticeInput {
+    let states = few(chance);
+    let draws = 1 + (states * states) as usize;
+    let out = about(chance, practice_length(states), 16_653);
+    let mut input = PracticeInput { states, highest: chance.between(1, 8), seed: seed(chance, draws), out };
+    let kind = chance.index(8);
+    if kind == 0 || kind == 1 {
+        input.states = outside(chance, 64);
+    }
+    if kind == 1 || kind == 2 {
+        input.highest = outside(chance, 8);
+    }
+    input
 }
 
 /// Two states and N = 1: of 1,000 drawn pairs of rewards the one with which the last division of state 1's first moment
