@@ -1,5 +1,5 @@
-/* Calls the proved library as include/kuldrepso.h declares it, on document 01's files, on the same in version 2, and on the
- * longest files there are.
+/* Calls the proved library as include/kuldrepso.h declares it, on document 01's files, on the same in version 2, on the
+ * longest files there are, and for practice files.
  * Every slice and every number to write to is lent from the midst of a larger array, and each call runs on a stack of
  * its own. No call may change a byte of the file, a time, an element that it has nothing to write to, anything before or
  * after what is lent, or the stack past what the header says. `tests/c/run` builds and runs this, as C and as C++. */
@@ -10,8 +10,8 @@
 #include <string.h>
 #include <ucontext.h>
 
-#if KULDREPSO_VERSION_MAJOR != 3 || KULDREPSO_VERSION_MINOR != 0
-#error "this test is for version 3.0 of the header"
+#if KULDREPSO_VERSION_MAJOR != 3 || KULDREPSO_VERSION_MINOR != 1
+#error "this test is for version 3.1 of the header"
 #endif
 #if KULDREPSO_REFUSED != 1000000 || KULDREPSO_ONE != 1000000000000
 #error "KULDREPSO_REFUSED or KULDREPSO_ONE has another value than callers rely on"
@@ -98,6 +98,14 @@ struct question {
     uint64_t state, n, r, answer, remainders[3];
 };
 
+/* What kuldrepso_practice is asked for, and the row that refuses it, or 0. */
+struct deal {
+    const char *name;
+    uint64_t states, highest;
+    uint32_t seed;
+    int row;
+};
+
 static int calls, faults;
 
 /* The slices, the numbers, the call's name for faults, and its answer. */
@@ -109,6 +117,7 @@ static uint8_t out[GUARD + OUT + GUARD];
 static size_t file_length, time_count, level_count, cell_count, out_length;
 static uint64_t numbers[3][NUMBER];
 static const struct question *asked;
+static const struct deal *deal;
 static const char *name;
 static uint64_t answered;
 static uint8_t stack[STACK_GUARD + STACK];
@@ -133,6 +142,10 @@ static void to_version_2(void) {
 
 static void to_version_1(void) {
     answered = kuldrepso_to_version_1(bytes + GUARD, file_length, out + GUARD, out_length);
+}
+
+static void practice(void) {
+    answered = kuldrepso_practice(deal->states, deal->highest, deal->seed, out + GUARD, out_length);
 }
 
 static void fault(const char *what, uint64_t number) {
@@ -264,13 +277,13 @@ static void expect_remainders(const uint8_t *file, size_t length, const struct q
     for (k = 0; k < 3; k++) expect_words(what[k], numbers[k], NUMBER, question->remainders + k, written);
 }
 
-/* What stands at a place of the slice for a moved file, and of its guards, before a call. */
+/* What stands at a place of the slice for a written file, and of its guards, before a call. */
 static uint8_t byte_before(size_t at) {
     return (uint8_t)(0xA5 + at);
 }
 
-/* A move of `length` bytes of `file` with `count` bytes lent for the moved file: the answer is to be `answer`, the first
- * `written` of these bytes `moved`, and all else as before. */
+/* A call that writes a file, with `length` bytes of `file` to read and `count` bytes lent to write to: the answer is to be
+ * `answer`, the first `written` of these bytes `moved`, and all else as before. */
 static void expect_out(const char *call_name, void (*call)(void), const uint8_t *file, size_t length, size_t count,
                        uint64_t answer, const uint8_t *moved, size_t written) {
     size_t at;
@@ -280,7 +293,7 @@ static void expect_out(const char *call_name, void (*call)(void), const uint8_t 
     for (at = 0; at < sizeof out; at++) {
         int new_byte = at >= GUARD && at - GUARD < written;
         if (out[at] != (new_byte ? moved[at - GUARD] : byte_before(at))) {
-            fault("not as expected is moved byte, the first such,", at - GUARD);
+            fault("not as expected is written byte, the first such,", at - GUARD);
             break;
         }
     }
@@ -291,7 +304,7 @@ static void expect_move_refusal(const char *call_name, void (*call)(void), const
     expect_out(call_name, call, file, length, count, KULDREPSO_REFUSED + (uint64_t)row, NULL, 0);
 }
 
-/* The move to `moved_length` bytes, with just as many, more and all lent; then with too few. */
+/* The move or deal to `moved_length` bytes, with just as many, more and all lent; then with too few. */
 static void expect_moved(const char *call_name, void (*call)(void), const uint8_t *file, size_t length,
                          const uint8_t *moved, size_t moved_length) {
     expect_out(call_name, call, file, length, moved_length, moved_length, moved, moved_length);
@@ -610,6 +623,72 @@ static void wrong_sums(void) {
     }
 }
 
+/* Practice files by hand from document 02, S-6: the words of the stream, each the one before * 1664525 + 1013904223, cut
+ * to 32 bits. Their upper halves are the draws.
+ *   seed 0         3C6EF35F = 1013904223; 47502932, as 1013904223 * 1664525 + 1013904223 = 392941 * 2^32 + 1196435762.
+ *                  Time 1 + 3C6E / 4096 = 1 + 15470 / 4096 = 4, first reward 4750 + 1.
+ *   seed 2^31      BC6EF35F; C7502932: each 2^31 more, as 2^31 times an odd number is 2^31 when cut.
+ *                  Time 1 + BC6E / 4096 = 1 + 48238 / 4096 = 12, first reward C750 + 1.
+ *   seed 1         3C88596C = 1664525 + 1013904223; 5E8885DB; 8116017E; B4733AC5; 0CF06D60.
+ *                  Time 1 + 3C88 / 4096 = 1 + 15496 / 4096 = 4, first reward 5E88 + 1, then 8116, B473, 0CF0.
+ *   seed 2^32 - 1  3C558D52 = 1013904223 - 1664525; 3017CC89; 2283EC54; A17F6BA3; B7B55CA6.
+ *                  Time 1 + 3C55 / 4096 = 1 + 15445 / 4096 = 4, first reward 3017 + 1, then 2283, A17F, B7B5. */
+static const struct deal DEALS[4] = {
+    {"practice, M 1, R 1, seed 0", 1, 1, 0, 0},
+    {"practice, M 1, R 8, seed 2^31", 1, 8, UINT32_C(1) << 31, 0},
+    {"practice, M 2, R 2, seed 1", 2, 2, 1, 0},
+    {"practice, M 2, R 1, seed 2^32 - 1", 2, 1, UINT32_MAX, 0},
+};
+static const size_t DEALT_LENGTHS[4] = {17, 17, 29, 29}; /* 4 * M * M + 13 */
+static const uint8_t DEALT[4][29] = {
+    {0x00, 0x0F, 0x01, 0x01, 0x01, 0x00, 0x00, 0x27, 0x10, 0x00, 0x00, 0x00, 0x04, 0x00, 0x00, 0x47, 0x51},
+    {0x00, 0x0F, 0x01, 0x01, 0x08, 0x00, 0x00, 0x27, 0x10, 0x00, 0x00, 0x00, 0x0C, 0x00, 0x00, 0xC7, 0x51},
+    {0x00, 0x1B, 0x01, 0x02, 0x02, 0x00, 0x00, 0x27, 0x10, 0x00, 0x00, 0x00, 0x04, 0x00, 0x00,
+     0x5E, 0x89, 0x00, 0x00, 0x81, 0x16, 0x00, 0x00, 0xB4, 0x73, 0x00, 0x00, 0x0C, 0xF0},
+    {0x00, 0x1B, 0x01, 0x02, 0x01, 0x00, 0x00, 0x27, 0x10, 0x00, 0x00, 0x00, 0x04, 0x00, 0x00,
+     0x30, 0x18, 0x00, 0x00, 0x22, 0x83, 0x00, 0x00, 0xA1, 0x7F, 0x00, 0x00, 0xB7, 0xB5},
+};
+
+/* M and R outside; 4294967299 is 2^32 + 3, inside by its low 32 bits alone. Of two rows that hold the first is told. */
+static const struct deal REFUSED_DEALS[13] = {
+    {"practice, M 0", 0, 1, 0, 4},
+    {"practice, M 65", 65, 8, 1, 4},
+    {"practice, M 4294967299", 4294967299, 3, 2, 4},
+    {"practice, M UINT64_MAX", UINT64_MAX, 1, UINT32_MAX, 4},
+    {"practice, R 0", 1, 0, 0, 5},
+    {"practice, R 9", 64, 9, 1, 5},
+    {"practice, R 4294967299", 3, 4294967299, 2, 5},
+    {"practice, R UINT64_MAX", 1, UINT64_MAX, UINT32_MAX, 5},
+    {"practice, M and R 0", 0, 0, 0, 4},
+    {"practice, M 0 and R 9", 0, 9, 0, 4},
+    {"practice, M 65 and R 0", 65, 0, 0, 4},
+    {"practice, M and R 4294967299", 4294967299, 4294967299, 0, 4},
+    {"practice, M and R UINT64_MAX", UINT64_MAX, UINT64_MAX, 0, 4},
+};
+
+static void expect_dealt(const struct deal *asked_deal, const uint8_t *file, size_t length) {
+    deal = asked_deal;
+    expect_moved(deal->name, practice, NULL, 0, file, length);
+}
+
+/* With one state every moment is one, as A's are. The moments of the others are from the independent calculation in
+ * tests/rust. */
+static void practice_papers(void) {
+    static const uint64_t of_1[4] = {755516734055, 574457417577, 998338519612, 996964827814};
+    static const uint64_t of_last[2] = {979173561442, 741283340214};
+    size_t k;
+    for (k = 0; k < 4; k++) expect_dealt(&DEALS[k], DEALT[k], DEALT_LENGTHS[k]);
+    expect_level(DEALS[0].name, DEALT[0], 17, 1, 1, A_MOMENTS, 1);
+    expect_level(DEALS[1].name, DEALT[1], 17, 8, 1, A_MOMENTS, 8);
+    expect_level(DEALS[2].name, DEALT[2], 29, 4, 4, of_1, 4);
+    expect_level(DEALS[3].name, DEALT[3], 29, 2, 4, of_last, 2);
+    for (k = 0; k < sizeof REFUSED_DEALS / sizeof REFUSED_DEALS[0]; k++) {
+        deal = &REFUSED_DEALS[k];
+        expect_move_refusal(deal->name, practice, NULL, 0, OUT, deal->row);
+        expect_move_refusal(deal->name, practice, NULL, 0, 0, deal->row);
+    }
+}
+
 static void no_elements(void) {
     const struct lent none = {A, 0, HOURS, 0, 0, 0}, time = {A, 0, HOURS, 1, 0, 0}, list = {A, sizeof A, HOURS, 1, 0, 0};
     expect_refusal("no byte and no cell", A, 0, 0, 1);
@@ -736,17 +815,34 @@ static void longest_remainders(void) {
     }
 }
 
+/* The longest practice file, its words from the stream. kuldrepso_calculate accepts it with its 64 * 8 cells. */
+static void longest_practice(void) {
+    static const struct deal longest_deal = {"the longest practice file", 64, 8, 0, 0};
+    static uint8_t file[BYTES];
+    uint32_t word = longest_deal.seed;
+    size_t k, length = make_longest(file, 1);
+    put(file, 5, 4, 10000);
+    for (k = 0; k <= 64 * 64; k++) {
+        word = (uint32_t)(word * UINT64_C(1664525) + 1013904223);
+        put(file, 9 + 4 * k, 4, k == 0 ? 1 + (word >> 16) / 4096 : (word >> 16) + (k == 1));
+    }
+    expect_dealt(&longest_deal, file, length);
+    if (kuldrepso_calculate(file, length, cells, 64 * 8) >= KULDREPSO_REFUSED) fault("it is refused, its length is", length);
+}
+
 int main(void) {
     papers();
     series_papers();
     remainders_papers();
     move_papers();
+    practice_papers();
     wrong_sums();
     no_elements();
     longest();
     longest_moves();
     longest_series();
     longest_remainders();
+    longest_practice();
     if (faults > 0) {
         printf(LANGUAGE " test: %d calls, %d faults\n", calls, faults);
         return 1;
