@@ -632,21 +632,29 @@ static void wrong_sums(void) {
  *   seed 1         3C88596C = 1664525 + 1013904223; 5E8885DB; 8116017E; B4733AC5; 0CF06D60.
  *                  Time 1 + 3C88 / 4096 = 1 + 15496 / 4096 = 4, first reward 5E88 + 1, then 8116, B473, 0CF0.
  *   seed 2^32 - 1  3C558D52 = 1013904223 - 1664525; 3017CC89; 2283EC54; A17F6BA3; B7B55CA6.
- *                  Time 1 + 3C55 / 4096 = 1 + 15445 / 4096 = 4, first reward 3017 + 1, then 2283, A17F, B7B5. */
-static const struct deal DEALS[4] = {
+ *                  Time 1 + 3C55 / 4096 = 1 + 15445 / 4096 = 4, first reward 3017 + 1, then 2283, A17F, B7B5.
+ *   653637408      FFFFFFFF, as 653637408 * 1664525 + 1013904223 = 253318 * 2^32 + 4294967295; 3C558D52 as above.
+ *                  Time 1 + FFFF / 4096 = 1 + 65535 / 4096 = 16, first reward 3C55 + 1.
+ *   2480864133     26F5B720 = 653637408, as 2480864133 * 1664525 + 1013904223 = 961465 * 2^32 + 653637408; FFFFFFFF.
+ *                  Time 1 + 26F5 / 4096 = 1 + 9973 / 4096 = 3, first reward FFFF + 1. */
+static const struct deal DEALS[6] = {
     {"practice, M 1, R 1, seed 0", 1, 1, 0, 0},
     {"practice, M 1, R 8, seed 2^31", 1, 8, UINT32_C(1) << 31, 0},
     {"practice, M 2, R 2, seed 1", 2, 2, 1, 0},
     {"practice, M 2, R 1, seed 2^32 - 1", 2, 1, UINT32_MAX, 0},
+    {"practice, M 1, R 2, the latest time", 1, 2, 653637408, 0},
+    {"practice, M 1, R 3, the largest first reward", 1, 3, 2480864133, 0},
 };
-static const size_t DEALT_LENGTHS[4] = {17, 17, 29, 29}; /* 4 * M * M + 13 */
-static const uint8_t DEALT[4][29] = {
+static const size_t DEALT_LENGTHS[6] = {17, 17, 29, 29, 17, 17}; /* 4 * M * M + 13 */
+static const uint8_t DEALT[6][29] = {
     {0x00, 0x0F, 0x01, 0x01, 0x01, 0x00, 0x00, 0x27, 0x10, 0x00, 0x00, 0x00, 0x04, 0x00, 0x00, 0x47, 0x51},
     {0x00, 0x0F, 0x01, 0x01, 0x08, 0x00, 0x00, 0x27, 0x10, 0x00, 0x00, 0x00, 0x0C, 0x00, 0x00, 0xC7, 0x51},
     {0x00, 0x1B, 0x01, 0x02, 0x02, 0x00, 0x00, 0x27, 0x10, 0x00, 0x00, 0x00, 0x04, 0x00, 0x00,
      0x5E, 0x89, 0x00, 0x00, 0x81, 0x16, 0x00, 0x00, 0xB4, 0x73, 0x00, 0x00, 0x0C, 0xF0},
     {0x00, 0x1B, 0x01, 0x02, 0x01, 0x00, 0x00, 0x27, 0x10, 0x00, 0x00, 0x00, 0x04, 0x00, 0x00,
      0x30, 0x18, 0x00, 0x00, 0x22, 0x83, 0x00, 0x00, 0xA1, 0x7F, 0x00, 0x00, 0xB7, 0xB5},
+    {0x00, 0x0F, 0x01, 0x01, 0x02, 0x00, 0x00, 0x27, 0x10, 0x00, 0x00, 0x00, 0x10, 0x00, 0x00, 0x3C, 0x56},
+    {0x00, 0x0F, 0x01, 0x01, 0x03, 0x00, 0x00, 0x27, 0x10, 0x00, 0x00, 0x00, 0x03, 0x00, 0x01, 0x00, 0x00},
 };
 
 /* M and R outside; 4294967299 is 2^32 + 3, inside by its low 32 bits alone. Of two rows that hold the first is told. */
@@ -677,11 +685,13 @@ static void practice_papers(void) {
     static const uint64_t of_1[4] = {755516734055, 574457417577, 998338519612, 996964827814};
     static const uint64_t of_last[2] = {979173561442, 741283340214};
     size_t k;
-    for (k = 0; k < 4; k++) expect_dealt(&DEALS[k], DEALT[k], DEALT_LENGTHS[k]);
+    for (k = 0; k < 6; k++) expect_dealt(&DEALS[k], DEALT[k], DEALT_LENGTHS[k]);
     expect_level(DEALS[0].name, DEALT[0], 17, 1, 1, A_MOMENTS, 1);
     expect_level(DEALS[1].name, DEALT[1], 17, 8, 1, A_MOMENTS, 8);
     expect_level(DEALS[2].name, DEALT[2], 29, 4, 4, of_1, 4);
     expect_level(DEALS[3].name, DEALT[3], 29, 2, 4, of_last, 2);
+    expect_level(DEALS[4].name, DEALT[4], 17, 2, 1, A_MOMENTS, 2);
+    expect_level(DEALS[5].name, DEALT[5], 17, 3, 1, A_MOMENTS, 3);
     for (k = 0; k < sizeof REFUSED_DEALS / sizeof REFUSED_DEALS[0]; k++) {
         deal = &REFUSED_DEALS[k];
         expect_move_refusal(deal->name, practice, NULL, 0, OUT, deal->row);
