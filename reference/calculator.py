@@ -1,7 +1,7 @@
 #!/usr/bin/env python3
 """Reference calculator: moments of the accumulated reward of a repairable system.
 
-Written from document 01 and requests S-1, S-3, S-4 and S-5 of document 02 alone, in plain whole
+Written from document 01 and requests S-1 and S-3 to S-6 of document 02 alone, in plain whole
 numbers, with the papers' letters. S-1 decides the last division; every other rounding is down.
 Reads a model file from standard input and prints its sheet:
 
@@ -14,6 +14,7 @@ Python's whole numbers have no upper limit, so the paper's helper
 import sys
 from collections import namedtuple
 from fractions import Fraction
+from itertools import islice
 from operator import mul
 
 ONE = 10**12          # ticks: the unit of every moment is 10^-12
@@ -26,6 +27,7 @@ LEVEL_LIMIT = 1024    # the level is never above this
 MOST_TIMES = 8        # times that a list may have
 REFUSED = 1_000_000   # refusal k as the answer of a call: this and k
 GIVEN, NONE = 0, 1    # what the call `remainders` answers for a file without a refusal
+MULTIPLIER, INCREMENT = 1664525, 1013904223     # of the stream from which a practice file is dealt
 
 # M states, highest moment R, tolerance epsilon, time T, reward rates f with the largest F,
 # rows c of the uniformized chain with uniformization rate E, X = E * T, and starting weights a
@@ -375,6 +377,39 @@ def to_version_1(file, out):
     if not row and any(read_starts(file, file[3])[1:]):
         row = 17
     return ("refused", row) if row else written(as_version_1(file), out)
+
+
+# --- Practice files (S-6) ------------------------------------------------------------------------
+
+def words(numbers):
+    """Numbers of 4 bytes each, one after the other."""
+    return b"".join(each.to_bytes(4, "big") for each in numbers)
+
+
+def draws(seed):
+    """The draws of a seed number, without end: the upper 16 bits of its stream after each step."""
+    x = seed
+    while True:
+        x = (x * MULTIPLIER + INCREMENT) % 2**32
+        yield x >> 16
+
+
+def dealt(M, R, seed):
+    """The practice file of a seed number: version 1 with M states and highest moment R."""
+    stream = draws(seed)
+    T = 1 + next(stream) // 4096
+    rewards = [1 + next(stream), *islice(stream, M - 1)]
+    rates = islice(stream, M * (M - 1))        # row by row, as in the file
+    return framed(1, bytes([M, R]) + words([10_000, T, *rewards, *rates]))
+
+
+def practice(states, highest, seed, out):
+    """A practice file dealt: refused by 4 and 5 for M and R, then 13, or written."""
+    if not 1 <= states <= 64:
+        return ("refused", 4)
+    if not 1 <= highest <= 8:
+        return ("refused", 5)
+    return written(dealt(states, highest, seed), out)
 
 
 # --- The answer of a call ------------------------------------------------------------------------

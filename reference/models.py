@@ -19,6 +19,7 @@ sys.dont_write_bytecode = True
 sys.path.insert(0, os.path.join(os.path.dirname(os.path.dirname(os.path.abspath(__file__))), "conformance"))
 
 import edges  # noqa: E402
+from calculator import words  # noqa: E402
 
 MAX_TOLERANCE = 100_000_000
 MAX_REWARD = 1_000_000
@@ -29,11 +30,6 @@ ALL_WEIGHT = 1_000_000      # what the starting weights of version 2 sum to
 
 
 # --- Bytes ----------------------------------------------------------------------------------
-
-def words(numbers):
-    """Numbers of 4 bytes each, one after the other."""
-    return b"".join(number.to_bytes(4, "big") for number in numbers)
-
 
 def build(version, M, R, eps, T, rewards, rates, weights=()):
     """The bytes of a model file. rates holds one row per state: the rates to each other

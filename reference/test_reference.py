@@ -918,6 +918,121 @@ class Converter(unittest.TestCase):
         self.assertEqual(calculator.answer(self.move(calculator.to_version_1, B2, 37)[0]), 1_000_017)
 
 
+class Practice(unittest.TestCase):
+    """S-6: practice files from a seed number."""
+
+    SEEDS = (0, 1, 2**31, 2**32 - 1, 123_456_789)
+    NO_STATES = (0, 65, 66, 255, 256, 257, 2**16 + 1, 2**32, 2**32 + 1, 2**32 + 3, 2**63 + 1, 2**64 - 1)
+    NO_HIGHEST = (0, 9, 10, 255, 256, 257, 2**16 + 1, 2**32, 2**32 + 1, 2**32 + 3, 2**63 + 1, 2**64 - 1)
+
+    def deal(self, states, highest, seed, room):
+        """The result, and the bytes after it, which were FF."""
+        out = [255] * room
+        return calculator.practice(states, highest, seed, out), bytes(out)
+
+    def dealt(self, M, R, seed, right):
+        """The file is dealt into just the bytes that it takes and into more; into fewer it is not."""
+        for more in (0, 1, 40):
+            self.assertEqual(self.deal(M, R, seed, len(right) + more),
+                             (("bytes", len(right)), right + b"\xff" * more))
+        for room in (len(right) - 1, len(right) - 2, 13, 1, 0):
+            self.kept(13, M, R, seed, room)
+
+    def kept(self, row, states, highest, seed, room):
+        self.assertEqual(self.deal(states, highest, seed, room), (("refused", row), b"\xff" * room))
+
+    def test_draws(self):
+        """First draws by hand. From 0 the stream steps to the increment itself, 3C6EF35F. From 1 to 1664525 more,
+        3C88596C, from 2^32 - 1, which is -1, to as much less, 3C558D52. From 2^31 the upper bit alone is the other one,
+        at every step, as the multiplier is odd. The second step from 0 is 1013904223 * 1664526, of which 32 bits are
+        47502932."""
+        for seed, first in ((0, (0x3C6E, 0x4750, 0xD1CC, 0xAAF9, 0x6252)),
+                            (1, (0x3C88, 0x5E88, 0x8116, 0xB473, 0x0CF0)),
+                            (2**31, (0xBC6E, 0xC750, 0x51CC, 0x2AF9, 0xE252)),
+                            (2**32 - 1, (0x3C55, 0x3017, 0x2283, 0xA17F, 0xB7B5))):
+            self.assertEqual(tuple(itertools.islice(calculator.draws(seed), 5)), first)
+
+    def test_small_files(self):
+        """The draws above: 3C6E = 15,470 is 3 times 4,096 and more, so that the time is 4; BC6E is 11 times and more.
+        The first reward is 1 more than its draw."""
+        header = "00 0F 01 01 01 00 00 27 10", "00 1B 01 02 02 00 00 27 10"
+        for M, R, seed, right in (
+                (1, 1, 0, f"{header[0]} 00000004 00004751"),
+                (1, 1, 1, f"{header[0]} 00000004 00005E89"),
+                (1, 1, 2**31, f"{header[0]} 0000000C 0000C751"),
+                (1, 1, 2**32 - 1, f"{header[0]} 00000004 00003018"),
+                (2, 2, 0, f"{header[1]} 00000004 00004751 0000D1CC 0000AAF9 00006252"),
+                (2, 2, 1, f"{header[1]} 00000004 00005E89 00008116 0000B473 00000CF0"),
+                (2, 2, 2**31, f"{header[1]} 0000000C 0000C751 000051CC 00002AF9 0000E252"),
+                (2, 2, 2**32 - 1, f"{header[1]} 00000004 00003018 00002283 0000A17F 0000B7B5")):
+            self.dealt(M, R, seed, bytes.fromhex(right))
+
+    def test_fields(self):
+        """Against the stream in closed form: after n steps it is a^n times the seed number, and the increment times
+        1 + a + ... + a^(n-1)."""
+        a, c = 1664525, 1013904223
+        for M, R, seed in ((1, 8, 7), (3, 2, 2**31 + 5), (5, 1, 99), (12, 3, 4_000_000_000)):
+            drawn = [(a**n * seed + c * (a**n - 1) // (a - 1)) % 2**32 // 2**16 for n in range(1, M * M + 2)]
+            rewards = [drawn[1] + 1] + drawn[2:M + 1]
+            rates = [drawn[k:k + M - 1] for k in range(M + 1, M * M + 1, M - 1)] if M > 1 else [[]]
+            self.dealt(M, R, seed, models.build(1, M, R, 10_000, drawn[0] // 4096 + 1, rewards, rates))
+
+    def test_accepted(self):
+        """Every number of states and every highest moment, with just the cells that the file needs."""
+        for M in range(1, 65):
+            for k, seed in enumerate(self.SEEDS):
+                R = 1 + (M + k) % 8
+                file = calculator.dealt(M, R, seed)
+                self.assertEqual(len(file), 4 * M * M + 13)
+                self.assertEqual((file[2], file[3], file[4], file[5:9]), (1, M, R, b"\0\0\x27\x10"))
+                self.assertEqual((calculator.refusal(file, M * R), calculator.refusal(file, M * R - 1)), (0, 13))
+
+    def test_worst_draws(self):
+        """Draws that are all the least or all the largest: even so every file is accepted."""
+        for draw, T, reward in ((0, 1, 1), (65_535, 16, 65_536)):
+            with mock.patch.object(calculator, "draws", lambda seed, draw=draw: itertools.repeat(draw)):
+                for M, R in itertools.product(range(1, 65), (1, 8)):
+                    file = calculator.dealt(M, R, 0)
+                    self.assertEqual(calculator.refusal(file, M * R), 0)
+                    self.assertEqual(calculator.number(file, 9, 4), T)
+                    self.assertEqual(calculator.read_rewards(file, M), [reward] + [draw] * (M - 1))
+                    self.assertEqual([sum(row) for row in calculator.read_rates(file, M)], [(M - 1) * draw] * M)
+        self.assertEqual(calculator.read_model(file).X, 66_059_280)
+
+    def test_times(self):
+        """Each of the sixteen times is dealt; the draws on both sides of where it changes."""
+        for draw in (*range(0, 65_536, 4096), *range(4095, 65_536, 4096)):
+            with mock.patch.object(calculator, "draws", lambda seed, draw=draw: itertools.repeat(draw)):
+                self.assertEqual(calculator.dealt(1, 1, 0)[9:13], bytes([0, 0, 0, 1 + (draw >> 12)]))
+
+    def test_row_4(self):
+        for states in self.NO_STATES:
+            for highest in (1, 8, *self.NO_HIGHEST):
+                for room in (0, 13, 17, 20_000):
+                    self.kept(4, states, highest, 5, room)
+        self.assertEqual(self.deal(64, 1, 5, 20_000)[0], ("bytes", 16_397))
+
+    def test_row_5(self):
+        for highest in self.NO_HIGHEST:
+            for states in (1, 2, 64):
+                for room in (0, 16, 17, 20_000):
+                    self.kept(5, states, highest, 5, room)
+        self.assertEqual(self.deal(1, 8, 5, 17)[0], ("bytes", 17))
+
+    def test_row_13(self):
+        for M in (1, 2, 3, 8, 63, 64):
+            size = 4 * M * M + 13
+            for room in (0, 1, 12, 13, size - 4, size - 2, size - 1):
+                self.kept(13, M, 8, 2**32 - 1, room)
+            for room in (size, size + 1, size + 300):
+                self.assertEqual(self.deal(M, 8, 2**32 - 1, room)[0], ("bytes", size))
+
+    def test_answers(self):
+        self.assertEqual(calculator.answer(self.deal(2, 2, 1, 29)[0]), 29)
+        for row, numbers in ((4, (0, 0, 1, 0)), (5, (1, 0, 1, 0)), (13, (1, 1, 1, 0))):
+            self.assertEqual(calculator.answer(self.deal(*numbers)[0]), 1_000_000 + row)
+
+
 class ExactAverage(unittest.TestCase):
 
     def test_average_of_B(self):
