@@ -70,6 +70,12 @@ def move(call, name, file, out=None):
     return Input(name, call, dict(file=file, out=inputs.moved_length(call, file) if out is None else out))
 
 
+def practice(name, states, highest, seed, out=None):
+    """A call of practice; where no count of bytes is given, just what the file needs."""
+    return Input(name, "practice", dict(states=states, highest=highest, seed=seed,
+                                        out=inputs.dealt_length(states) if out is None else out))
+
+
 def at(word, file, state, n, r):
     """A call of remainders whose name tells its numbers."""
     return remainders(f"{word}-state-{state}-n-{n}-r-{r}", file, state, n, r)
@@ -836,22 +842,30 @@ def move_files(call):
         yield move(call, f"there-and-back-{name}", of_version(call, file))
 
 
+LARGE_ROOMS = (16_397, 16_653, 2**16, 2**16 + 1)     # bytes
+
+
+def rooms_13(word, enough):
+    """Counts of bytes that are too few for a file, and more than enough, by name."""
+    for name, out in (("one-less", enough - 1), ("two-less", enough - 2), ("none", 0), ("one-byte", 1),
+                      ("header", 13), ("a-word-less", enough - 4)):
+        yield f"refused-13-{word}-{name}", out
+    for name, out in (("one-more", enough + 1), ("three-more", enough + 3), ("a-word-more", enough + 4),
+                      ("256-more", enough + 256)):
+        yield f"border-13-{word}-{name}", out
+
+
 def move_row_13(call):
     """Slices that are too short, just enough, and longer."""
     for word, file in (("A", A), ("B", B), ("3-states", three_states(8)), ("11-states", states(11, 2))):
         file = of_version(call, file)
-        enough = inputs.moved_length(call, file)
-        for name, out in (("one-less", enough - 1), ("two-less", enough - 2), ("none", 0), ("one-byte", 1),
-                          ("header", 13), ("a-word-less", enough - 4)):
-            yield move(call, f"refused-13-{word}-{name}", file, out)
-        for name, out in (("one-more", enough + 1), ("three-more", enough + 3), ("a-word-more", enough + 4),
-                          ("256-more", enough + 256)):
-            yield move(call, f"border-13-{word}-{name}", file, out)
+        for name, out in rooms_13(word, inputs.moved_length(call, file)):
+            yield move(call, name, file, out)
         if call == "to_version_2":
             yield move(call, f"refused-13-{word}-of-the-file", file, len(file))
         else:
             yield move(call, f"border-13-{word}-of-the-file", file, len(file))
-    for out in (16_397, 16_653, 2**16, 2**16 + 1):
+    for out in LARGE_ROOMS:
         yield move(call, f"border-13-B-{out}-bytes", FILE_B[call], out)
 
 
@@ -942,8 +956,78 @@ def moves(call, *groups):
 TO_VERSION_2 = moves("to_version_2", move_files, move_row_13, move_rows, move_versions)
 TO_VERSION_1 = moves("to_version_1", move_files, move_row_13, move_rows, move_versions, move_back_weights)
 
-GROUPS = {"calculate": CALCULATE, "remainders": REMAINDERS, "series": SERIES, "to_version_1": TO_VERSION_1,
-          "to_version_2": TO_VERSION_2}
+
+# --- Practice files --------------------------------------------------------------------------------------------
+
+# The practice files of the kit by name: states, highest moment and seed number.
+PRACTICE = {
+    **{f"practice-states-{M:02d}-moments-{R}-seed-{seed}": (M, R, seed) for M, R, seed in (
+        *((M, R, seed) for M, R in ((1, 1), (2, 2), (3, 8)) for seed in inputs.SEEDS.values()),
+        (1, 8, 20_261), (2, 1, MAX_WORD), (4, 3, 2), (5, 4, 1_000_003), (6, 5, 2**16 - 1), (7, 6, 2**16), (8, 7, 4_711),
+        (9, 1, 2**31 - 1), (11, 2, 2**31 + 1), (16, 8, 2_718_281_828), (21, 3, 3_141_592_653), (32, 1, 20_262),
+        (64, 1, 1), (64, 8, MAX_WORD))},
+    **{f"practice-{end}": (2, 3, inputs.seed_drawing(*draw)) for end, draw in inputs.DRAWS.items()},
+}
+# Numbers that are too many states, and too many moments; in 8, 16 or 32 bits some would not be.
+TOO_MANY = (128, 255, 256, 257, 258, 2**16 + 1, 2**16 + 2, 2**31 + 1, 2**32, 2**32 + 1, 2**32 + 3, 2**63, 2**63 + 1,
+            LARGEST - 1, LARGEST)
+
+
+def practice_files():
+    """The practice files of the kit, and every highest moment."""
+    for name, numbers in PRACTICE.items():
+        yield practice(name, *numbers)
+    for R in range(1, 9):
+        yield practice(f"moments-{R}", 3, R, 77)
+
+
+def practice_seeds():
+    """Seed numbers next to a limit of bits, and every draw next to where the time changes."""
+    for seed in (2, 3, 255, 256, 2**15, 2**16 - 1, 2**16, 2**16 + 1, 2**24, 2**24 + 1, 2**31 - 1, 2**31 + 1, MAX_WORD - 1):
+        yield practice(f"seed-{seed}", 2, 1, seed)
+    for T in range(1, 17):
+        for draw in (4096 * T - 4096, 4096 * T - 1):
+            yield practice(f"time-{T}-draw-{draw}", 1, 1, inputs.seed_drawing(1, draw, 2**16 - T))
+    for draw in (0, 1, 65_534, 65_535):
+        yield practice(f"first-reward-{draw + 1}-1-state", 1, 2, inputs.seed_drawing(2, draw, 77))
+
+
+def practice_rows():
+    """Rows 4 and 5 alone and together, and before 13."""
+    for states in (0, 65, 66, *TOO_MANY):
+        yield practice(f"refused-04-states-{states}", states, 2, 5, 18_000 if states in (65, 66) else 100)
+    for highest in (0, 9, 10, 16, 64, *TOO_MANY):
+        yield practice(f"refused-05-highest-{highest}", 2, highest, 5, 100)
+    yield practice("refused-05-highest-9-64-states", 64, 9, 5)
+    for states, highest in itertools.product((0, 65, 257, 2**32 + 1, LARGEST), (0, 9, 257, LARGEST)):
+        word = f"states-{states}-highest-{highest}"
+        yield practice(f"refused-04-before-05-{word}", states, highest, 5, 18_000)
+        yield practice(f"refused-04-before-05-and-13-{word}", states, highest, 5, 0)
+    for states, less in ((0, 12), (65, 16_912), (65, 16_397), (257, 16), (2**32 + 1, 16), (LARGEST, 16)):
+        yield practice(f"refused-04-before-13-states-{states}-bytes-{less}", states, 1, 5, less)
+        yield practice(f"refused-04-before-05-and-13-states-{states}-bytes-{less}", states, 9, 5, less)
+    for states in (0, 65, 257, 2**32 + 1, LARGEST):
+        yield practice(f"refused-04-before-13-states-{states}-bytes-0", states, 1, 5, 0)
+    for highest in (0, 9, 257, 2**32 + 1, LARGEST):
+        yield practice(f"refused-05-before-13-highest-{highest}-bytes-0", 1, highest, 5, 0)
+        yield practice(f"refused-05-before-13-highest-{highest}-one-less", 2, highest, 5, 28)
+
+
+def practice_row_13():
+    """Slices that are too short, just enough, and longer."""
+    for states, highest, seed in ((1, 1, 0), (2, 2, 1), (3, 8, 7), (11, 2, 2**31)):
+        for name, out in rooms_13(f"states-{states}", inputs.dealt_length(states)):
+            yield practice(name, states, highest, seed, out)
+    for out in LARGE_ROOMS:
+        yield practice(f"border-13-states-2-{out}-bytes", 2, 2, 1, out)
+    for name, out in (("one-less", 16_396), ("two-less", 16_395), ("none", 0)):
+        yield practice(f"refused-13-states-64-{name}", 64, 8, 9, out)
+
+
+DEALING = (practice_files, practice_seeds, practice_rows, practice_row_13)
+
+GROUPS = {"calculate": CALCULATE, "practice": DEALING, "remainders": REMAINDERS, "series": SERIES,
+          "to_version_1": TO_VERSION_1, "to_version_2": TO_VERSION_2}
 
 
 def named(call):

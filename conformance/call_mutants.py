@@ -30,9 +30,9 @@ ENOUGH = 2        # stored calls that have to catch a wrong one
 
 
 def cost(each):
-    """About the work for a case: the multiplications of its vectors, and its bytes."""
-    file = each.given["file"]
-    return inputs.cost(each.given) if each.answer < 10**6 else 0, len(file)
+    """About the work for a case: the multiplications of its vectors, and the bytes of its file, or of the dealt one."""
+    size = len(each.given["file"]) if "file" in each.given else each.given["out"]
+    return inputs.cost(each.given) if each.answer < 10**6 else 0, size
 
 
 def caught(program, each):

@@ -17,6 +17,7 @@ CALLS = os.path.join(HERE, "calls")
 sys.path.insert(0, HERE)
 sys.path.insert(0, os.path.join(os.path.dirname(HERE), "reference"))
 
+import calculator  # noqa: E402
 import call_cases  # noqa: E402
 import edges  # noqa: E402
 import models  # noqa: E402
@@ -323,6 +324,12 @@ def start_kinds():
         yield f"start-{kind.__name__.replace('_', '-')}", models.build(**models.in_version_2(fields, weights))
 
 
+def practice_files():
+    """Files dealt from seed numbers (S-6); the calls of practice have them by the same names."""
+    for name, numbers in call_cases.PRACTICE.items():
+        yield name, calculator.dealt(*numbers)
+
+
 def edge_files():
     """What conformance/search.py found: a rounding or a border decides the sheet."""
     for row in edges.EDGES:
@@ -345,7 +352,7 @@ def all_files():
     for group in (hand_checked, borders, pairs, least_pairs, least_of_version_2, other_versions, one_of_three,
                   weight_of_three, two_of_three, past_32_bits, weights_past_bits, lengths, read_limit, byte_values,
                   most_moments, near_rewards, moments, states, jump_counts, below_whole, tolerances, figures,
-                  start_figures, start_edges, start_kinds, edge_files, kinds):
+                  start_figures, start_edges, start_kinds, practice_files, edge_files, kinds):
         yield from group()
 
 

@@ -250,6 +250,19 @@ class StoredCalls(unittest.TestCase):
                 self.assertEqual((bytes(first.written["out"]), first.answer), (second.given["file"],
                                                                                len(second.given["file"])), name)
 
+    def test_practice_files(self):
+        """What a call of practice gives by the name of a model is that model; its sheet has figures."""
+        dealt = {each.name: each for each in run_calls.stored() if each.call == "practice"}
+        names = [name for name in run.names() if name.startswith("practice-")]
+        self.assertEqual(names, sorted(name for name in dealt if name.startswith("practice-")))
+        self.assertGreaterEqual(len(names), 30)
+        for name in names:
+            each, file = dealt[name], run.stored(name + ".model")
+            self.assertEqual((each.answer, bytes(each.written["out"])), (len(file), file), name)
+            self.assertRegex(run.stored(name + ".sheet"), rb"\Alevel \d+\n1 1 [01]\.\d{12}\n", name)
+        for word, wanted in (("states", {1, 64}), ("highest", {1, 8}), ("seed", {0, 1, 2**31, 2**32 - 1})):
+            self.assertLessEqual(wanted, {dealt[name].given[word] for name in names})
+
     def test_versions(self):
         """Of each call that reads either version, files of both are accepted; of the converter those of one."""
         for call, versions in inputs.VERSIONS.items():

@@ -4,6 +4,7 @@ calculate_inputs(seed, count)     files, valid and damaged, with counts of cells
 series_inputs(seed, count)        files with lists of times, and counts of level and block cells
 remainders_inputs(seed, count)    files with a state, n and r: within their limits, at their ends, outside
 to_version_2_inputs(seed, count)  files with a count of bytes for the moved one; to_version_1_inputs alike
+practice_inputs(seed, count)      states, highest moment and seed number with a count of bytes for the file
 
 The inputs of a call come from several parts in turn: aimed at a row of the call's table, each row in its turn, breaking
 some later rows as well; accepted; aimed at an end of its files, counts or numbers; put together by chance.
@@ -13,6 +14,7 @@ import copy
 import random
 from collections import Counter, namedtuple
 from functools import partial
+from itertools import islice
 
 import calculator
 import models
@@ -22,7 +24,7 @@ from models import MAX_WORD, MAX_X
 # The call, and what it gets: {parameter: a number, the elements of a slice, or the count of a slice that is written}.
 Input = namedtuple("Input", "name call given")
 
-# The versions that each call admits.
+# The versions that each call admits, of those that read a file.
 VERSIONS = {"calculate": (1, 2), "series": (1, 2), "remainders": (1, 2), "to_version_2": (1,), "to_version_1": (2,)}
 
 # The refusals of each call, in the order in which they are tried. A file of version 1 has no weights for 16.
@@ -32,6 +34,7 @@ ROWS = {
     "remainders": [*range(1, 9), 16, *range(9, 13)],
     "to_version_2": [*range(1, 14)],
     "to_version_1": [*range(1, 9), 16, *range(9, 13), 17, 13],
+    "practice": [4, 5, 13],
 }
 FILE_ROWS = {*range(1, 13), 16, 17}     # those that a file breaks by itself
 CHEAP = 200_000     # multiplications of the vectors of one input
@@ -375,16 +378,21 @@ def models_reached(file, i, rests):
     return [name for name in MODELS if holds[name]]
 
 
+def places_reached(given, limit):
+    """Which numbers of an input are outside of their limits, and at which of PLACES one is that has the others
+    within."""
+    outside = {name for name in limit if not 1 <= given[name] <= limit[name]}
+    return outside, [f"{name}-{place}" for name in limit for place, at in PLACES.items()
+                     if given[name] == at(limit[name]) and outside <= {name}]
+
+
 def remainders_ends(given, result):
     """The ends that an input of remainders reaches: a number at a place has the others within their limits."""
     answer, written = result
-    limit = limits(given["file"])
-    outside = {name for name in NUMBERS if not 1 <= given[name] <= limit[name]}
+    outside, places = places_reached(given, limits(given["file"]))
     row = row_of(answer)
     if row:
         return [f"outside-row-{row:02d}"] if len(outside) == 3 else []
-    places = [f"{name}-{place}" for name in NUMBERS for place, at in PLACES.items()
-              if given[name] == at(limit[name]) and outside <= {name}]
     if answer == calculator.NONE:
         return ["none", *places, *(["outside"] if len(outside) == 3 else [])]
     rests = [written[name][0] for name in ("mean", "share", "mix")]
@@ -392,7 +400,7 @@ def remainders_ends(given, result):
 
 
 def within(rng, limit):
-    return {name: rng.randint(1, limit[name]) for name in NUMBERS}
+    return {name: rng.randint(1, most) for name, most in limit.items()}
 
 
 def beyond(rng, limit):
@@ -401,7 +409,7 @@ def beyond(rng, limit):
 
 
 def all_beyond(rng, limit):
-    return {name: beyond(rng, limit[name]) for name in NUMBERS}
+    return {name: beyond(rng, most) for name, most in limit.items()}
 
 
 def any_number(rng, limit):
@@ -456,6 +464,100 @@ def any_remainders(rng):
     return asked(file, **{name: any_number(rng, limit) for name, limit in limits(file).items()})
 
 
+# --- Inputs of practice ---------------------------------------------------------------------------------
+
+SIZES = dict(states=64, highest=8)      # the limits of M and R
+SEEDS = {"seed-0": 0, "seed-1": 1, "seed-2-31": 2**31, "seed-largest": MAX_WORD}
+
+# Draws at their ends: which one, and what it is. The first gives the time, the second the first reward, and with two
+# states the third the other reward and the fourth a rate.
+DRAWS = {
+    "time-least": (1, 0),
+    "time-1-last": (1, 4095),
+    "time-2-first": (1, 4096),
+    "time-largest": (1, 65_535),
+    "first-reward-least": (2, 0),
+    "first-reward-largest": (2, 65_535),
+    "third-draw-largest": (3, 65_535),
+    "fourth-draw-largest": (4, 65_535),
+}
+
+
+def seed_before(x, steps):
+    """The seed number whose stream is x after so many steps."""
+    for _ in range(steps):
+        x = (x - calculator.INCREMENT) * pow(calculator.MULTIPLIER, -1, 2**32) % 2**32
+    return x
+
+
+def seed_drawing(step, draw, low=0):
+    """A seed number with this draw at this step; `low` are the lower 16 bits of the stream there."""
+    return seed_before(draw << 16 | low, step)
+
+
+def any_seed(rng):
+    """A seed number of chance, or one with draws at an end."""
+    return rng.choice([rng.choice([*SEEDS.values()]), rng.getrandbits(32), models.log_uniform(rng, 1, MAX_WORD),
+                       seed_drawing(*rng.choice([*DRAWS.values()]), rng.getrandbits(16))])
+
+
+def dealt_length(states):
+    """The bytes of a practice file; of states past their limit those of one too many."""
+    return 4 * min(states, SIZES["states"] + 1)**2 + 13
+
+
+def practice_of(rng, **numbers):
+    """An input that is accepted but for these numbers, with just the bytes that the file takes; few states more often
+    than many."""
+    given = {**within(rng, SIZES), "states": models.log_uniform(rng, 1, SIZES["states"]), "seed": any_seed(rng),
+             **numbers}
+    return dict(given, out=dealt_length(given["states"]))
+
+
+def aimed_practice(rng, row, next_too=False):
+    """An input that breaks this row and some that come after it; row 0: none."""
+    rows = and_later(rng, "practice", row, next_too)
+    given = practice_of(rng, **{name: beyond(rng, limit) for number, (name, limit) in enumerate(SIZES.items(), 4)
+                                if number in rows})
+    return dict(given, out=room(rng, given["out"], 13 in rows))
+
+
+def any_practice(rng):
+    given = practice_of(rng, **{name: any_number(rng, limit) for name, limit in SIZES.items()})
+    return dict(given, out=room(rng, given["out"], rng.random() < 0.3))
+
+
+def practice_at(rng, name, place):
+    """An input with states or highest at a place, the other within its limit."""
+    return practice_of(rng, **{name: PLACES[place](SIZES[name])})
+
+
+def practice_seed(rng, end):
+    """An accepted input with a seed number at an end; two states at least, where it is by its draws."""
+    if end in SEEDS:
+        return practice_of(rng, seed=SEEDS[end])
+    return practice_of(rng, seed=seed_drawing(*DRAWS[end], rng.getrandbits(16)), states=rng.randint(2, 6))
+
+
+def practice_room(rng, end):
+    """An input with a count of bytes at an end."""
+    given = practice_of(rng)
+    name, enough, other = rooms("practice", given)
+    return {**given, name: ROOM_ENDS[end](enough, other)}
+
+
+def practice_ends(given, result):
+    """The ends that an input of practice reaches: states or highest at a place has the other within its limit; those of
+    its seed number, where a file is dealt; those of its count, where nothing is outside."""
+    outside, places = places_reached(given, SIZES)
+    if outside:
+        return places
+    first = list(islice(calculator.draws(given["seed"]), 4))
+    seeds = [end for end, seed in SEEDS.items() if given["seed"] == seed]
+    seeds += [end for end, (step, draw) in DRAWS.items() if first[step - 1] == draw]
+    return [*places, *room_ends("practice", given), *(seeds if row_of(result[0]) == 0 else [])]
+
+
 # --- Ends of versions, starting weights and counts -------------------------------------------------------
 
 # What may hold of starting weights that sum to 1,000,000, and the kind of models.STARTS that is drawn for it.
@@ -480,7 +582,7 @@ SUM_ENDS = {
 }
 
 # Counts of what a call writes, by how much is enough, and another count: for cells of version 2 those of the moments
-# alone, for a moved file the bytes of the file itself.
+# alone, for a moved file the bytes of the file itself, for a practice file those that its length counts.
 ROOM_ENDS = {
     "room-none": lambda enough, other: 0,
     "room-one-less": lambda enough, other: enough - 1,
@@ -496,6 +598,9 @@ def weights_of(file):
 
 def rooms(call, given):
     """The parameter with the count of what is written, how much is enough, and the other count of ROOM_ENDS."""
+    if call == "practice":
+        enough = dealt_length(given["states"])
+        return "out", enough, enough - 2
     file = given["file"]
     if call in ("to_version_2", "to_version_1"):
         return "out", moved_length(call, file), len(file)
@@ -586,24 +691,29 @@ def room_aims(call, around):
 
 # --- A mix ---------------------------------------------------------------------------------------------
 
-def aims(call, aimed, by_chance, around):
+def aims(call, aimed, by_chance, ends):
     """Inputs of each row with later ones, and with the next one, accepted inputs, those of each end, and inputs of
     chance."""
     return ([(f"{word}row-{row:02d}", partial(aimed, row=row, next_too=bool(word)))
              for word in ("", "next-") for row in ROWS[call]],
             [("accepted", partial(aimed, row=0))],
-            file_aims(call, around) + room_aims(call, around),
+            ends,
             [("by-chance", by_chance)])
 
 
+def reading_aims(call, aimed, by_chance, around):
+    """Those of a call that reads a file: ends of its files and counts."""
+    return aims(call, aimed, by_chance, file_aims(call, around) + room_aims(call, around))
+
+
 def moving_aims(call):
-    return aims(call, *(partial(each, call=call) for each in (aimed_move, any_move, move_of)))
+    return reading_aims(call, *(partial(each, call=call) for each in (aimed_move, any_move, move_of)))
 
 
 # What the inputs of a call are aimed at, in parts: (name, a function of rng).
 AIMS = {
-    "calculate": aims("calculate", aimed_calculate, any_calculate, calculate_of),
-    "series": aims("series", aimed_series, any_series, series_of),
+    "calculate": reading_aims("calculate", aimed_calculate, any_calculate, calculate_of),
+    "series": reading_aims("series", aimed_series, any_series, series_of),
     "remainders": (
         [(f"{word}row-{row:02d}", partial(refused_remainders, row=row, outside=bool(word)))
          for word in ("", "outside-") for row in ROWS["remainders"]],
@@ -614,6 +724,10 @@ AIMS = {
         [(f"file-{end}", make) for end, make in file_aims("remainders", remainders_of)]),
     "to_version_2": moving_aims("to_version_2"),
     "to_version_1": moving_aims("to_version_1"),
+    "practice": aims("practice", aimed_practice, any_practice, [
+        *((f"{name}-{place}", partial(practice_at, name=name, place=place)) for name in SIZES for place in PLACES),
+        *((end, partial(practice_seed, end=end)) for end in (*SEEDS, *DRAWS)),
+        *((end, partial(practice_room, end=end)) for end in ROOM_ENDS)]),
 }
 
 # What a run has to reach beside the rows of a call's table; of remainders, that of its numbers and models alone.
@@ -630,10 +744,10 @@ def enough(call):
 
 def cost(given):
     """About the work of the reference for an input: the multiplications of its vectors, up to n where it has one; none
-    for a file that is moved."""
-    file = given["file"]
+    for a file that is moved or dealt."""
     if "out" in given:
         return 0
+    file = given["file"]
     longest = longest_time(file)
     if calculator.refusal(file, calculator.LENT_CELLS) not in (0, 12):
         return 0
@@ -684,15 +798,20 @@ def to_version_1_inputs(seed, count):
     return mixed("to_version_1", seed, count)
 
 
+def practice_inputs(seed, count):
+    return mixed("practice", seed, count)
+
+
 GENERATED = {"calculate": calculate_inputs, "series": series_inputs, "remainders": remainders_inputs,
-             "to_version_2": to_version_2_inputs, "to_version_1": to_version_1_inputs}
+             "to_version_2": to_version_2_inputs, "to_version_1": to_version_1_inputs, "practice": practice_inputs}
 
 
 # --- How often each row and each end is reached ---------------------------------------------------------
 
 def reached(call, given, result):
     """What an input with this result reaches: the row that its answer tells, or 0, and ends of its call."""
-    ends = remainders_ends(given, result) if call == "remainders" else file_ends(call, given, result)
+    own = {"remainders": remainders_ends, "practice": practice_ends}
+    ends = own[call](given, result) if call in own else file_ends(call, given, result)
     return [row_of(result[0]), *(end for end in ends if end in ENDS[call])]
 
 

@@ -46,6 +46,7 @@ CALLS = {
     "remainders": parameters("file:u8[] state:u64 n:u64 r:u64 mean:u64* share:u64* mix:u64*"),
     "to_version_2": parameters("file:u8[] out:u8[]*"),
     "to_version_1": parameters("file:u8[] out:u8[]*"),
+    "practice": parameters("states:u64 highest:u64 seed:u32 out:u8[]*"),
 }
 
 
