@@ -1,5 +1,6 @@
 """The tables of wrong calls for call_mutants.py: each the reference's series or calculate with one thing changed, those
-of remainders from remainders_mistakes.py, and those of the converter from move_mistakes.py.
+of remainders from remainders_mistakes.py, those of the converter from move_mistakes.py and those of practice from
+practice_mistakes.py.
 
 As in mistakes.py, an entry names the mistake, says it in a line and gives its changes in the text of
 reference/calculator.py. TABLE holds the mistakes by call, LEFT_OUT the changes that no call can show, each with the
@@ -8,6 +9,7 @@ reason; EQUIVALENT are those of series.
 
 import mistakes
 import move_mistakes
+import practice_mistakes
 import remainders_mistakes
 from mistakes import ROWS as FILE_ROWS
 from mistakes import wrong
@@ -98,8 +100,8 @@ def half_down(a, b):
     return -((b - 2 * a) // (2 * b))
 
 
-HELPERS = (*mistakes.HELPERS, *remainders_mistakes.HELPERS, *move_mistakes.HELPERS, last_product, block_of, with_time_1,
-           swapped_bytes, fill, lay, half_down)
+HELPERS = (*mistakes.HELPERS, *remainders_mistakes.HELPERS, *move_mistakes.HELPERS, *practice_mistakes.HELPERS,
+           last_product, block_of, with_time_1, swapped_bytes, fill, lay, half_down)
 
 
 # --- Series: the refusal table -------------------------------------------------------------------------
@@ -613,12 +615,14 @@ def by_name(entries):
 
 TABLE = {
     "calculate": by_name(CALCULATE),
+    "practice": by_name(practice_mistakes.TABLE),
     "remainders": by_name(remainders_mistakes.TABLE),
     "series": by_name(SERIES),
     "to_version_1": by_name(move_mistakes.TO_VERSION_1),
     "to_version_2": by_name(move_mistakes.TO_VERSION_2),
 }
 LEFT_OUT = {
+    "practice": practice_mistakes.EQUIVALENT,
     "remainders": remainders_mistakes.EQUIVALENT,
     "series": EQUIVALENT,
     "to_version_1": move_mistakes.EQUIVALENT_1,

@@ -108,8 +108,8 @@ def size_of(call):
     return f"moved_size(file, {OTHER[call]})"
 
 
-def row_13(call):
-    """The slice for the moved file."""
+def rooms():
+    """The slice for a file that is written."""
     for name, what, new in (
             ("left-out", "not tested", "if False:"),
             ("at-just-enough", "just enough refused", "if len(out) <= len(file):"),
@@ -125,6 +125,11 @@ def row_13(call):
             ("8-bit-count", "the count lent in 8 bits", "if len(out) % 2**8 < len(file):"),
             ("16-bit-count", "the count lent in 16 bits", "if len(out) % 2**16 < len(file):")):
         yield wrong(f"row-13-{name}", f"row 13: {what}", (SHORT, new))
+
+
+def row_13(call):
+    """The slice for the moved file, and its place in the table."""
+    yield from rooms()
     for row in ORDER[call][:-1]:
         yield judged_17(call, f"row-13-before-{row:02d}", f"row 13 tested before row {row}",
                         f"row = 13 if row in {from_row(call, row)} and len(out) < {size_of(call)} else row")
@@ -137,21 +142,14 @@ def judged_17(call, name, what, new):
 
 # --- What is written, what is answered --------------------------------------------------------------------
 
-def written_by(call):
-    """Bytes written where none may be, and counts."""
-    for row in ORDER[call][:-1]:
-        yield judged_17(call, f"refused-{row}-written", f"a byte written although {row} is answered",
-                        f"mark(out) if row == {row} else None")
+def laid():
+    """A file that is written laid otherwise, bytes written although 13 is answered or past the end, and counts."""
     yield wrong("refused-13-written", "a byte written although 13 is answered",
                 (f"    {SHORT}\n", f"    {SHORT}\n        mark(out)\n"))
     yield wrong("refused-13-what-fits", "what fits written although 13 is answered",
                 (f"    {SHORT}\n", f"    {SHORT}\n        out[:] = file[:len(out)]\n"))
     yield wrong("refused-13-last-byte", "the last byte lent written although 13 is answered",
                 (f"    {SHORT}\n", f"    {SHORT}\n        out[-1:] = [0][:len(out)]\n"))
-    yield wrong("refusal-in-bytes", "a refusal's number in the first byte",
-                (END[call], f"    mark(out, row) if row else None\n{END[call]}"))
-    yield wrong("cleared-first", "all bytes set to 0 before the table is tried",
-                (JUDGED[call], f"out[:] = bytes(len(out))\n    {JUDGED[call]}"))
     yield wrong("past-the-end-one", "a byte past the end set to 0, where there is one",
                 (LAY, f"{LAY}    out[len(file):len(file) + 1] = [0][:len(out) - len(file)]\n"))
     yield wrong("past-the-end-word", "four bytes past the end set to 0, where they are",
@@ -169,6 +167,18 @@ def written_by(call):
             ("lent", "the count of bytes lent", "len(out)"), ("8-bit", "in 8 bits", "len(file) % 2**8"),
             ("states", "M", "file[3]"), ("words", "in words of four bytes", "len(file) // 4")):
         yield wrong(f"count-{name}", f"the count of bytes: {what}", (COUNT, f'return ("bytes", {new})'))
+
+
+def written_by(call):
+    """Bytes written where none may be, and counts."""
+    for row in ORDER[call][:-1]:
+        yield judged_17(call, f"refused-{row}-written", f"a byte written although {row} is answered",
+                        f"mark(out) if row == {row} else None")
+    yield wrong("refusal-in-bytes", "a refusal's number in the first byte",
+                (END[call], f"    mark(out, row) if row else None\n{END[call]}"))
+    yield wrong("cleared-first", "all bytes set to 0 before the table is tried",
+                (JUDGED[call], f"out[:] = bytes(len(out))\n    {JUDGED[call]}"))
+    yield from laid()
     yield wrong("count-of-the-file", "the count of bytes: that of the file that is moved",
                 (END[call], f'    {MOVED[call]} if not row else None\n'
                             f'    return ("refused", row) if row else '
@@ -179,24 +189,16 @@ def framed(name, what, new):
     return wrong(name, what, (FRAMED, f"return {new}"))
 
 
-def content_of(call):
-    """The length field and the version byte of a moved file, and what follows."""
-    own, other = 3 - OTHER[call], OTHER[call]
-    old = f"(1 + len(fields) {'-' if other == 2 else '+'} 4 * fields[0])"
-    rest = "bytes([version]) + fields"
-    yield framed("length-stays", "the length field as it was", f'{old}.to_bytes(2, "big") + {rest}')
-    yield framed("length-upper-byte-stays", "the upper byte of the length as it was",
-                 f'{old}.to_bytes(2, "big")[:1] + {LENGTH}[1:] + {rest}')
-    yield framed("length-lower-byte-stays", "the lower byte of the length as it was",
-                 f'{LENGTH}[:1] + {old}.to_bytes(2, "big")[1:] + {rest}')
+REST = "bytes([version]) + fields"
+
+
+def frames():
+    """The length field and the version byte of a file that is written, and what follows."""
     yield framed("length-low-byte-first", "the length low byte first",
-                 f'(1 + len(fields)).to_bytes(2, "little") + {rest}')
+                 f'(1 + len(fields)).to_bytes(2, "little") + {REST}')
     yield framed("length-counts-itself", "the length with its own two bytes",
-                 f'(3 + len(fields)).to_bytes(2, "big") + {rest}')
-    yield framed("length-one-less", "the length one less", f'len(fields).to_bytes(2, "big") + {rest}')
-    yield framed("length-one-word", "the length changed by four bytes alone",
-                 f'({old} {"+" if other == 2 else "-"} 4).to_bytes(2, "big") + {rest}')
-    yield framed("version-stays", "the version byte as it was", f"{LENGTH} + bytes([{own}]) + fields")
+                 f'(3 + len(fields)).to_bytes(2, "big") + {REST}')
+    yield framed("length-one-less", "the length one less", f'len(fields).to_bytes(2, "big") + {REST}')
     yield framed("version-0", "the version byte 0", f"{LENGTH} + bytes(1) + fields")
     yield framed("version-3", "the version byte 3", f"{LENGTH} + bytes([3]) + fields")
     yield framed("states-and-moments-exchanged", "M and R exchanged",
@@ -205,6 +207,21 @@ def content_of(call):
                  f"{LENGTH} + bytes([version]) + fields[:2] + fields[6:10] + fields[2:6] + fields[10:]")
     yield framed("time-1", "the time 1",
                  f"{LENGTH} + bytes([version]) + fields[:6] + bytes([0, 0, 0, 1]) + fields[10:]")
+
+
+def content_of(call):
+    """The same of a moved file, and what stays as it was."""
+    own, other = 3 - OTHER[call], OTHER[call]
+    old = f"(1 + len(fields) {'-' if other == 2 else '+'} 4 * fields[0])"
+    yield from frames()
+    yield framed("length-stays", "the length field as it was", f'{old}.to_bytes(2, "big") + {REST}')
+    yield framed("length-upper-byte-stays", "the upper byte of the length as it was",
+                 f'{old}.to_bytes(2, "big")[:1] + {LENGTH}[1:] + {REST}')
+    yield framed("length-lower-byte-stays", "the lower byte of the length as it was",
+                 f'{LENGTH}[:1] + {old}.to_bytes(2, "big")[1:] + {REST}')
+    yield framed("length-one-word", "the length changed by four bytes alone",
+                 f'({old} {"+" if other == 2 else "-"} 4).to_bytes(2, "big") + {REST}')
+    yield framed("version-stays", "the version byte as it was", f"{LENGTH} + bytes([{own}]) + fields")
 
 
 def first_weight(name, what, new):

@@ -4,6 +4,7 @@
 import contextlib
 import functools
 import io
+import itertools
 import os
 import subprocess
 import sys
@@ -26,6 +27,7 @@ import call_mistakes  # noqa: E402
 import call_mutants  # noqa: E402
 import cases  # noqa: E402
 import mutants  # noqa: E402
+import practice_mistakes  # noqa: E402
 import run_calls  # noqa: E402
 from inputs import MOST, NUMBERS, asked, limits  # noqa: E402
 from library import GUARD, PAINT, PAINT_BYTE  # noqa: E402
@@ -74,6 +76,15 @@ uint64_t kuldrepso_to_version_2(uint8_t *file, size_t file_length, uint8_t *out,
     }
     if (out_length > 2) out[2] = 2;
     return 10 * file_length + out_length;
+}
+uint64_t kuldrepso_practice(uint64_t states, uint64_t highest, uint32_t seed, uint8_t *out, size_t out_length) {
+    switch (seed) {
+    case 1: out[out_length] = 7; break;
+    case 2: out[-1] = 7; break;
+    case 3: out[out_length + 8] = 7; break;
+    }
+    if (out_length > 2) out[2] = (uint8_t)(seed >> 24);
+    return states - highest;
 }
 uint64_t kuldrepso_probe(uint32_t number, uint8_t *out, size_t out_count) {
     if (out_count > 1) out[0] = 200, out[1] = (uint8_t)number;
@@ -144,12 +155,13 @@ class Inputs(unittest.TestCase):
         self.assertEqual(inputs.ROWS["remainders"], to_8 + [16, 9, 10, 11, 12])
         self.assertEqual(inputs.ROWS["to_version_2"], to_8 + [9, 10, 11, 12, 13])
         self.assertEqual(inputs.ROWS["to_version_1"], to_8 + [16, 9, 10, 11, 12, 17, 13])
+        self.assertEqual(inputs.ROWS["practice"], [4, 5, 13])
         for call, rows in inputs.ROWS.items():
             self.assertGreaterEqual(inputs.enough(call), 3 * len(rows))
 
     def test_tally_words(self):
         for call, ends in (("calculate", 25), ("series", 25), ("remainders", 40), ("to_version_2", 13),
-                           ("to_version_1", 26)):
+                           ("to_version_1", 26), ("practice", 29)):
             counts = inputs.tally(call, [0, *inputs.ROWS[call], *inputs.ENDS[call], 2, 2])
             words = ", ".join(f"{row}: {3 if row == 2 else 1}" for row in inputs.ROWS[call])
             self.assertEqual(inputs.tally_words(call, counts),
@@ -204,7 +216,7 @@ class Version2Inputs(unittest.TestCase):
     def setUpClass(cls):
         """For each call the row that each of some inputs reaches, with its file."""
         cls.files = {call: [(reached(call, given)[0], given["file"]) for given in given_all(1, 400, call)]
-                     for call in library.CALLS}
+                     for call in inputs.VERSIONS}
 
     def weights(self, call, *rows):
         """The starting weights of version 2 files that these rows stop, or none for 0."""
@@ -304,6 +316,48 @@ class RemaindersInputs(unittest.TestCase):
         self.assertGreater(min(found[word] for word in (8, 16, 32, "far", "large")), 5, found)
 
 
+class PracticeInputs(unittest.TestCase):
+
+    def ends(self, states, highest, seed, out):
+        return reached("practice", dict(states=states, highest=highest, seed=seed, out=out))
+
+    def test_ends(self):
+        self.assertEqual(self.ends(2, 3, 7, 29), [0, "room-just-enough"])
+        self.assertEqual(self.ends(1, 8, 0, 20), [0, "states-1", "highest-limit", "room-three-more", "seed-0"])
+        self.assertEqual(self.ends(64, 1, 2**32 - 1, 16_396), [13, "states-limit", "highest-1", "room-one-less"])
+        self.assertEqual(self.ends(2, 3, 2**31, 27), [13, "room-other"])
+        for place, number in (("0", 0), ("past-32-bits", 2**32 + 1), ("largest", 2**64 - 1)):
+            self.assertEqual(self.ends(number, 3, 1, 0), [4, f"states-{place}"])
+            self.assertEqual(self.ends(2, number, 1, 0), [5, f"highest-{place}"])
+            self.assertEqual(self.ends(number, number, 1, 0), [4])
+        self.assertEqual(self.ends(65, 3, 1, 29), [4, "states-past-limit"])
+        self.assertEqual(self.ends(2, 9, 1, 29), [5, "highest-past-limit"])
+        self.assertEqual(len(set(inputs.ENDS["practice"])), 12 + 4 + 8 + 5)
+
+    def test_seeds(self):
+        """The seed numbers with draws at an end have them, whatever stands below."""
+        for end, (step, draw) in inputs.DRAWS.items():
+            for low in (0, 77, 2**16 - 1):
+                seed = inputs.seed_drawing(step, draw, low)
+                self.assertEqual(list(itertools.islice(calculator.draws(seed), step))[-1], draw)
+                self.assertIn(end, self.ends(2, 3, seed, 29))
+
+    def test_numbers(self):
+        """Numbers outside that are within their limits in 8, 16 or 32 bits; many states and many seed numbers."""
+        found, states, seeds = Counter(), set(), set()
+        for given in given_all(1, 600, "practice"):
+            row = reached("practice", given)[0]
+            if row in (4, 5):
+                number, limit = (given["states"], 64) if row == 4 else (given["highest"], 8)
+                for bits in (8, 16, 32):
+                    found[row, bits] += 1 <= number % 2**bits <= limit
+            elif row == 0:
+                states.add(given["states"])
+                seeds.add(given["seed"])
+        self.assertGreater(min(found[row, bits] for row in (4, 5) for bits in (8, 16, 32)), 5, found)
+        self.assertGreater(min(len(states), len(seeds) // 4), 40)
+
+
 class Cases(unittest.TestCase):
 
     def test_there_and_back(self):
@@ -351,6 +405,14 @@ class Cases(unittest.TestCase):
             "name B\ncall to_version_2\nfile 001B01020205F5E100000000010000000100000000000F4240000F4240\n"
             "out_lent 40\nanswer 37\n"
             "out 002302020205F5E10000000001000F4240000000000000000100000000000F4240000F4240\n"))
+
+
+    def test_text_of_a_practice_file(self):
+        given = dict(states=1, highest=1, seed=2**31, out=19)
+        made = cases.case("dealt", "practice", given, inputs.outcome(calculator, "practice", given))
+        self.assertEqual(cases.text([made]), (
+            "name dealt\ncall practice\nstates 1\nhighest 1\nseed 2147483648\nout_lent 19\nanswer 17\n"
+            "out 000F010101000027100000000C0000C751\n"))
 
 
 class Kit(unittest.TestCase):
@@ -520,6 +582,8 @@ WRONG_TEXTS = {
               (BACK, BACK.replace("else", 'else ("refused", 13) if len(out) < len(file) else'))),
         wrong("rewards-dropped", "", (WITHOUT, "file[3:13 + 4 * file[3]] + file[13 + 8 * file[3]:]")),
     ),
+    # All those of the kit but one: no drawn slice has 2^16 bytes.
+    ("practice",): [entry for entry in practice_mistakes.TABLE if entry.name != "row-13-16-bit-count"],
 }
 
 
@@ -539,7 +603,7 @@ class Comparison(unittest.TestCase):
             status, said, saved = self.compare(Reference(), call, inputs.enough(call))
             self.assertEqual((status, saved), (0, []))
             self.assertRegex(said, rf"\Acompared \d+ inputs of {call}, seed 7: all equal "
-                                   rf"\(accepted \d+; refused 1: \d+, .*; {len(ends)} ends, each at least \d+ "
+                                   rf"\(accepted \d+; refused {inputs.ROWS[call][0]}: \d+, .*; {len(ends)} ends, each at least \d+ "
                                    r"times\)\n\Z")
 
     def test_different(self):
@@ -562,19 +626,21 @@ class Comparison(unittest.TestCase):
     def test_wrong_texts(self):
         """Each wrong text is told by some input of each of its calls."""
         drawn = {call: given_all(7, 4 * inputs.enough(call), call) for call in library.CALLS}
-        right = functools.lru_cache(None)(lambda call, k: inputs.outcome(calculator, call, drawn[call][k]))
+        right = functools.lru_cache(None)(lambda call, k: cases.case(
+            k, call, drawn[call][k], inputs.outcome(calculator, call, drawn[call][k])))
         for calls, entries in WRONG_TEXTS.items():
             for entry in entries:
-                program = mutants.module(entry)
+                program = mutants.module(entry, call_mistakes.HELPERS)
                 for call in calls:
-                    self.assertTrue(any(inputs.outcome(program, call, given) != right(call, k)
-                                        for k, given in enumerate(drawn[call])), (call, entry.name))
+                    self.assertTrue(any(call_mutants.caught(program, right(call, k))
+                                        for k in range(len(drawn[call]))), (call, entry.name))
 
     def test_what_is_never_reached_is_told(self):
         for call, missing in (("calculate", 16), ("calculate", "sum-right-in-32-bits"), ("remainders", "n-largest"),
                               ("remainders", "r-past-limit"), ("remainders", "64-states"),
                               ("remainders", "outside-row-12"), ("to_version_2", 0), ("to_version_2", "room-other"),
-                              ("to_version_1", 17)):
+                              ("to_version_1", 17), ("practice", 5), ("practice", "states-past-32-bits"),
+                              ("practice", "time-1-last"), ("practice", "seed-2-31")):
             def without(seed, count, call=call, missing=missing):
                 drawn = inputs.mixed(call, seed, 3 * count)
                 kept = (each for each in drawn if missing not in reached(call, each.given))
@@ -646,6 +712,14 @@ class Library(unittest.TestCase):
                             (4, [f"file[3], outside of its 3, was {PAINT_BYTE + 3} and is 7"])):
             got = self.linked.call("to_version_2", dict(file=bytes([kind, 2, 3]), out=3))
             self.assertEqual(got, (33, {"out": [PAINT_BYTE, PAINT_BYTE + 1, 2]}, words))
+
+    def test_numbers_that_are_read(self):
+        for seed, words in ((2**32 - 1, []),
+                            (1, [f"out[3], outside of its 3, was {PAINT_BYTE + 3} and is 7"]),
+                            (2, ["out[-1], outside of its 3, was 255 and is 7"]),
+                            (3, [f"out[11], outside of its 3, was {PAINT_BYTE + 11} and is 7"])):
+            got = self.linked.call("practice", dict(states=2**64 - 1, highest=2**32 + 3, seed=seed, out=3))
+            self.assertEqual(got, (2**64 - 2**32 - 4, {"out": [PAINT_BYTE, PAINT_BYTE + 1, seed >> 24]}, words))
 
     def test_numbers_and_bytes(self):
         with mock.patch.dict(library.CALLS, PROBE):
