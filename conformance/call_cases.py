@@ -965,7 +965,7 @@ PRACTICE = {
         *((M, R, seed) for M, R in ((1, 1), (2, 2), (3, 8)) for seed in inputs.SEEDS.values()),
         (1, 8, 20_261), (2, 1, MAX_WORD), (4, 3, 2), (5, 4, 1_000_003), (6, 5, 2**16 - 1), (7, 6, 2**16), (8, 7, 4_711),
         (9, 1, 2**31 - 1), (11, 2, 2**31 + 1), (16, 8, 2_718_281_828), (21, 3, 3_141_592_653), (32, 1, 20_262),
-        (64, 1, 1), (64, 8, MAX_WORD))},
+        (64, 1, 1), (64, 2, MAX_WORD))},
     **{f"practice-{end}": (2, 3, inputs.seed_drawing(*draw)) for end, draw in inputs.DRAWS.items()},
 }
 # Numbers that are too many states, and too many moments; in 8, 16 or 32 bits some would not be.
@@ -983,7 +983,8 @@ def practice_files():
 
 def practice_seeds():
     """Seed numbers next to a limit of bits, and every draw next to where the time changes."""
-    for seed in (2, 3, 255, 256, 2**15, 2**16 - 1, 2**16, 2**16 + 1, 2**24, 2**24 + 1, 2**31 - 1, 2**31 + 1, MAX_WORD - 1):
+    for seed in (2, 3, 255, 256, 2**15, 2**16 - 1, 2**16, 2**16 + 1, 2**24, 2**24 + 1, 2**31 - 1, 2**31 + 1,
+                 MAX_WORD - 1):
         yield practice(f"seed-{seed}", 2, 1, seed)
     for T in range(1, 17):
         for draw in (4096 * T - 4096, 4096 * T - 1):

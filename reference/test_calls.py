@@ -603,8 +603,8 @@ class Comparison(unittest.TestCase):
             status, said, saved = self.compare(Reference(), call, inputs.enough(call))
             self.assertEqual((status, saved), (0, []))
             self.assertRegex(said, rf"\Acompared \d+ inputs of {call}, seed 7: all equal "
-                                   rf"\(accepted \d+; refused {inputs.ROWS[call][0]}: \d+, .*; {len(ends)} ends, each at least \d+ "
-                                   r"times\)\n\Z")
+                                   rf"\(accepted \d+; refused {inputs.ROWS[call][0]}: \d+, .*; {len(ends)} ends, "
+                                   r"each at least \d+ times\)\n\Z")
 
     def test_different(self):
         def one_more(given, answer, written):
