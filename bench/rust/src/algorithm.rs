@@ -239,12 +239,18 @@ mod refusals {
     const MOST_ROW_SUM: u64 = 10_000_000;
     const MOST_JUMPS: u64 = 256_000_000;
 
-    pub fn outside(x: u64, most: u64) -> bool {
-        x == 0 || x > most
+    pub fn outside(low: u64, high: u64, x: u64) -> bool {
+        x < low || x > high
     }
 
-    fn beyond(low: u64, high: u64, x: u64) -> bool {
-        x < low || x > high
+    pub fn judge_dimensions(states: u64, highest: u64) -> Judgement {
+        if outside(1, MOST_STATES, states) {
+            return Judgement::Refused(4);
+        }
+        if outside(1, MOST_MOMENTS, highest) {
+            return Judgement::Refused(5);
+        }
+        Judgement::Accepted
     }
 
     fn fitting_length(file: &[u8]) -> u64 {
@@ -261,14 +267,15 @@ mod refusals {
         if length != (file.len() - 2) as u64 {
             return Judgement::Refused(2);
         }
-        if beyond(low, high, reader::version(file)) {
+        if outside(low, high, reader::version(file)) {
             return Judgement::Refused(3);
         }
-        if outside(reader::state_count(file) as u64, MOST_STATES) {
-            return Judgement::Refused(4);
-        }
-        if outside(reader::highest_moment(file) as u64, MOST_MOMENTS) {
-            return Judgement::Refused(5);
+        let dimensions = judge_dimensions(
+            reader::state_count(file) as u64,
+            reader::highest_moment(file) as u64,
+        );
+        if let Judgement::Refused(k) = dimensions {
+            return Judgement::Refused(k);
         }
         if length != fitting_length(file) {
             return Judgement::Refused(6);
@@ -303,7 +310,7 @@ mod refusals {
     }
 
     fn judge_quantities(file: &[u8], times: &[u32]) -> Rated {
-        if outside(reader::tolerance(file), MOST_TOLERANCE) {
+        if outside(1, MOST_TOLERANCE, reader::tolerance(file)) {
             return Rated::Refused(7);
         }
         if without_time(file, times) {
@@ -376,7 +383,7 @@ mod refusals {
 
     fn judge_times(file: &[u8], rate: u64, times: &[u32], levels: usize, cells: usize) -> Judgement {
         let count = times.len();
-        if outside(count as u64, MOST_TIMES as u64) {
+        if outside(1, MOST_TIMES as u64, count as u64) {
             return Judgement::Refused(14);
         }
         if falls(times) {
