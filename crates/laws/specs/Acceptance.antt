@@ -36,7 +36,7 @@ some-above k n f h = ltb-true k (largest n f) (sym (any-largest k n f) ∙ not-f
 pub record Framed (s : List ℕ) : Type 0 where
   pub states-min : 1 ≤ stateCount s
   pub states-max : stateCount s ≤ 64
-  pub size : length s ≡ 4 * stateCount s * stateCount s + 4 * (distributions s * stateCount s) + 13
+  pub size : length s ≡ fittingLength s + 2
 
 -- a framed file has at most 16,653 bytes
 pub length-max : (s : List ℕ) → Framed s → length s ≤ 16653
@@ -106,7 +106,7 @@ module _ (low high : ℕ) (s : List ℕ) (row : NoneHold (framing low high s)) w
   moments-by = in-range 1 8 (highestMoment s) (row .1 .1 .1 .1 .0)
 
 -- the rows 7 to 12 and 16, with a time T that is not 0 and not too late
-pub limits-by : (low high : ℕ) (s times : List ℕ) (T : ℕ) → NoneHold (framing low high s) → NoneHold (quantities (modelOf s) times) → 1 ≤ T → uniformRate (modelOf s) * T ≤ 256000000 → WithinLimits (atTime (modelOf s) T)
+limits-by : (low high : ℕ) (s times : List ℕ) (T : ℕ) → NoneHold (framing low high s) → NoneHold (quantities (modelOf s) times) → 1 ≤ T → uniformRate (modelOf s) * T ≤ 256000000 → WithinLimits (atTime (modelOf s) T)
 unfolding quantities maxReward jumpMillionths
 limits-by low high s times T first row nonzero early =
     let f = framed-by low high s first in
@@ -131,7 +131,7 @@ limits-by low high s times T first row nonzero early =
     }
 
 -- row 8: the file's time is not 0, and neither is the first of a list
-pub times-by : (s times : List ℕ) → NoneHold (quantities (modelOf s) times) → (1 ≤ timeField s) × (startsAtZero times ≡ false)
+times-by : (s times : List ℕ) → NoneHold (quantities (modelOf s) times) → (1 ≤ timeField s) × (startsAtZero times ≡ false)
 unfolding quantities
 times-by s times row =
     let both = neither (eqb (timeField s) 0) (startsAtZero times) (row .1 .0) in
@@ -185,7 +185,7 @@ series-in-parts s times levels cells =
     ∙ in-parts first _ (uniformRate (modelOf s)) tt
 
 -- rows 1 to 12 and 16: what acceptance tells
-pub model-by : (low high : ℕ) (s : List ℕ) → NoneHold (fileRows low high s) → AcceptedModel low high s
+model-by : (low high : ℕ) (s : List ℕ) → NoneHold (fileRows low high s) → AcceptedModel low high s
 unfolding jumps
 model-by low high s none =
     let to12 = none-in-parts (framing low high s ++ quantities (modelOf s) []) (jumps (uniformRate (modelOf s)) (timeField s)) none in

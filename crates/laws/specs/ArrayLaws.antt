@@ -19,7 +19,7 @@ pub length-zeros : (n : ℕ) → length (zeros n) ≡ n
 unfolding zeros
 length-zeros n = length-replicate n 0
 
-zero-at : (n i : ℕ) → getD (zeros n) i 0 ≡ 0
+pub zero-at : (n i : ℕ) → getD (zeros n) i 0 ≡ 0
 unfolding zeros
 zero-at n i =
     elim (decLt i n) [

@@ -3,10 +3,10 @@ use Prim.Native.Nat.{ℕ, zero, suc, _+_, _*_, _/_, _%_, _≤_, _<_, _^_}
 use native.Mathlib.Omega.{arith}
 use native.Mathlib.Nat.{add-assoc, pow-suc, pow-le-pow-right}
 use native.Mathlib.Numerals.{add-one}
-use mathlib.Core.Path.{_≡_, refl, _∙_, ap, ap₂}
-use mathlib.Core.List.{List, [], _∷_, _++_}
-use lib.ListN.{length, getD, drop, set, length-append}
-use lib.Seq.{sets, getD-drop, getD-set-same, getD-set-other, length-sets}
+use mathlib.Core.Path.{_≡_, refl, sym, _∙_, ap, ap₂}
+use mathlib.Core.List.{List, [], _∷_, _++_, append-assoc}
+use lib.ListN.{length, getD, take, drop, set, length-append}
+use lib.Seq.{sets, sets-eq, getD-at, getD-drop, getD-set-other, length-take-le}
 use Rattle.definitions.specs.Bytes.{big, bytesOf}
 use Rattle.laws.specs.Rounding.{quotient-remainder, quotient-below}
 
@@ -49,25 +49,33 @@ pub sets-after : (l : List ℕ) (i : ℕ) (vs : List ℕ) (k : ℕ) → i + leng
 sets-after l i [] k h = refl
 sets-after l i (v ∷ vs) k h = sets-after (set l i v) (suc i) vs k (omega arith) ∙ getD-set-other l i k v 0 (λ e. omega arith)
 
--- a run of stores with one more behind it
-sets-more : (l : List ℕ) (i : ℕ) (vs : List ℕ) (v : ℕ) → sets l i (vs ++ (v ∷ [])) ≡ set (sets l i vs) (i + length vs) v
-sets-more l i [] v = ap (λ (k : ℕ). set l k v) (omega arith)
-sets-more l i (w ∷ vs) v = sets-more (set l i w) (suc i) vs v ∙ ap (λ (k : ℕ). set (sets (set l i w) (suc i) vs) k v) (omega arith)
-
 pub length-bytes : (width n : ℕ) → length (bytesOf width n) ≡ width
 unfolding bytesOf
 length-bytes zero n = refl
 length-bytes (suc width) n = length-append (bytesOf width (n / 256)) (n % 256 ∷ []) ∙ omega (arith, length-bytes width (n / 256))
 
--- a number that is stored in so many bytes, and fits them, is read
-pub big-stored : (width n : ℕ) (s : List ℕ) (at : ℕ) → at + width ≤ length s → n < 256 ^ width → big width (sets s at (bytesOf width n)) at ≡ n
+-- a number that was written in so many bytes, and fits them, is read
+pub big-of-bytes : (width n : ℕ) (pre post : List ℕ) (at : ℕ) → length pre ≡ at → n < 256 ^ width → big width (pre ++ (bytesOf width n ++ post)) at ≡ n
 unfolding big bytesOf
-big-stored zero n s at room fits = omega arith
-big-stored (suc width) n s at room fits =
-    let before : List ℕ = sets s at (bytesOf width (n / 256)) in
-    let stored : sets s at (bytesOf width (n / 256) ++ (n % 256 ∷ [])) ≡ set before (at + width) (n % 256) = sets-more s at (bytesOf width (n / 256)) (n % 256) ∙ ap (λ (k : ℕ). set before (at + k) (n % 256)) (length-bytes width (n / 256)) in
+big-of-bytes zero n pre post at e fits = omega arith
+big-of-bytes (suc width) n pre post at e fits =
+    let before : List ℕ = bytesOf width (n / 256) in
     let power : 256 ^ suc width ≡ 256 ^ width * 256 = pow-suc 256 width in
-    let upper : big width before at ≡ n / 256 = big-stored width (n / 256) s at (omega arith) (quotient-below n (256 ^ width) 256 (omega (arith, power, fits))) in
-    let kept = big-same width at (set before (at + width) (n % 256)) before (λ i b. getD-set-other before (at + width) (at + i) (n % 256) 0 (λ e. omega arith)) in
-    let last = getD-set-same before (at + width) (n % 256) 0 (omega (arith, length-sets s at (bytesOf width (n / 256)))) in
-    rw stored (omega (arith, upper, kept, last, quotient-remainder n 256))
+    let upper : big width (pre ++ (before ++ (n % 256 ∷ post))) at ≡ n / 256 = big-of-bytes width (n / 256) pre (n % 256 ∷ post) at e (quotient-below n (256 ^ width) 256 (omega (arith, power, fits))) in
+    let place : length (pre ++ before) ≡ at + width = omega (arith, e, length-append pre before, length-bytes width (n / 256)) in
+    let last : getD (pre ++ (before ++ (n % 256 ∷ post))) (at + width) 0 ≡ n % 256 = ap (λ (l : List ℕ). getD l (at + width) 0) (sym (append-assoc pre before (n % 256 ∷ post))) ∙ getD-at (pre ++ before) (n % 256) post 0 (at + width) place in
+    rw (append-assoc before (n % 256 ∷ []) post) (omega (arith, upper, last, quotient-remainder n 256))
+
+-- a number that was read from bytes fits them
+pub big-below : (width at : ℕ) (s : List ℕ) → ((i : ℕ) → getD s i 0 < 256) → big width s at < 256 ^ width
+unfolding big
+big-below zero at s low = omega arith
+big-below (suc width) at s low =
+    omega (arith, below-more (big width s at) width (getD s (at + width) 0) (big-below width at s low) (low (at + width)), ap (λ (k : ℕ). 256 ^ k) (add-one width))
+
+-- and so one that is stored in them
+pub big-stored : (width n : ℕ) (s : List ℕ) (at : ℕ) → at + width ≤ length s → n < 256 ^ width → big width (sets s at (bytesOf width n)) at ≡ n
+big-stored width n s at room fits =
+    ap (λ (l : List ℕ). big width l at) (sets-eq (bytesOf width n) s at (omega (arith, length-bytes width n)))
+    ∙ ap (λ (l : List ℕ). big width l at) (append-assoc (take at s) (bytesOf width n) (drop (at + length (bytesOf width n)) s))
+    ∙ big-of-bytes width n (take at s) (drop (at + length (bytesOf width n)) s) at (length-take-le at s (omega arith)) fits

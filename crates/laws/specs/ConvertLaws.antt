@@ -7,7 +7,7 @@ use mathlib.Core.Bool.{true, false}
 use mathlib.Core.List.{List, [], _∷_, _++_, append-nil}
 use lib.ListN.{length, getD, take, drop, replicate, length-replicate, replicate-append-replicate}
 use lib.Seq.{ext-getD}
-use borrow.Author.Tests.{lt-ltb, le-ltb, ltb-false}
+use borrow.Author.Tests.{ltb-false}
 use Rattle.definitions.specs.Sums.{sum, largest, anyAbove, firsts}
 use Rattle.definitions.specs.Bytes.{bytesOf}
 use Rattle.definitions.specs.File.{lengthField, version, stateCount, distributions, weightField, rewardsAt}
@@ -18,10 +18,11 @@ use Rattle.definitions.specs.Moment.{moment, startFigure}
 use Rattle.definitions.specs.Fields.{Fields, inVersion, numbersAt, wordsOf, fieldsOf, fileOf}
 use Rattle.definitions.specs.Written.{fileFor}
 use Rattle.definitions.specs.Convert.{inVersion2, inVersion1, movedTo2, movedTo1, elsewhere, toVersion2, toVersion1, Moved, ThereAndBack}
-use Rattle.laws.specs.SumLaws.{any-largest, largest-le, le-largest, sum-single}
+use Rattle.laws.specs.SumLaws.{any-largest, le-largest, sum-single}
 use Rattle.laws.specs.ListLaws.{length-firsts, getD-firsts}
+use Rattle.laws.specs.ArrayLaws.{zeros, zero-at}
 use Rattle.laws.specs.RuleLaws.{andThen, row-stops, row-passes, none-left, in-parts, NoneHold, none-hold, none-in-parts, none-together, all-pass, agree}
-use Rattle.laws.specs.RowLaws.{no-start, with-start}
+use Rattle.laws.specs.RowLaws.{no-start, with-start, none-found}
 use Rattle.laws.specs.ChainLaws.{version-2, other-version}
 use Rattle.laws.specs.Acceptance.{accepted-model}
 use Rattle.laws.specs.WrittenLaws.{stopped-by-table, stopped-by-room, is-written, was-written}
@@ -42,24 +43,9 @@ words-zeros (suc n) =
 sum-first : (n : ℕ) (a : ℕ → ℕ) → 1 ≤ n → ((i : ℕ) → i < n - 1 → a (i + 1) ≡ 0) → sum n a ≡ a 0
 sum-first n a low zeros = sum-single n 0 a low (λ j h other. let place : j ≡ j - 1 + 1 = omega (arith, other) in ap a place ∙ zeros (j - 1) (omega (arith, other)))
 
--- row 17, of n weights: it holds where one but the first is above 0
-pub weight-found : (n : ℕ) (a : ℕ → ℕ) (i : ℕ) → 1 ≤ i → i < n → 0 < a i → anyAbove 0 (n - 1) (λ k. a (k + 1)) ≡ true
-weight-found n a i low high some =
-    let place : i - 1 + 1 ≡ i = omega arith in
-    any-largest 0 (n - 1) (λ k. a (k + 1)) ∙ lt-ltb 0 (largest (n - 1) (λ k. a (k + 1))) (omega (arith, some, ap a place, le-largest (n - 1) (λ k. a (k + 1)) (i - 1) (omega arith)))
-
--- and passes where all but the first are 0
-pub none-found : (n : ℕ) (a : ℕ → ℕ) → ((i : ℕ) → 1 ≤ i → i < n → a i ≡ 0) → anyAbove 0 (n - 1) (λ k. a (k + 1)) ≡ false
-none-found n a zeros = any-largest 0 (n - 1) (λ k. a (k + 1)) ∙ le-ltb 0 (largest (n - 1) (λ k. a (k + 1))) (largest-le (n - 1) 0 (λ k. a (k + 1)) (λ k h. omega (arith, zeros (k + 1) (omega arith) (omega arith))))
-
--- and so they are where it passes
+-- where row 17 passes, all weights but the first are 0
 all-zero : (n : ℕ) (a : ℕ → ℕ) → anyAbove 0 (n - 1) (λ k. a (k + 1)) ≡ false → (i : ℕ) → i < n - 1 → a (i + 1) ≡ 0
 all-zero n a none i h = omega (arith, le-largest (n - 1) (λ k. a (k + 1)) i h, ltb-false 0 (largest (n - 1) (λ k. a (k + 1))) (sym (any-largest 0 (n - 1) (λ k. a (k + 1))) ∙ none))
-
-getD-zeros : (n i : ℕ) → _≡_ {A = ℕ} (getD (replicate n 0) i 0) 0
-getD-zeros zero i = refl
-getD-zeros (suc n) zero = refl
-getD-zeros (suc n) (suc i) = getD-zeros n i
 
 -- all weight on the first of n states
 abbrev onFirst : ℕ → List ℕ
@@ -69,11 +55,13 @@ first-count : (n : ℕ) → 1 ≤ n → length (onFirst n) ≡ n
 first-count n h = omega (arith, length-replicate {A = ℕ} (n - 1) 0)
 
 first-fits : (n i : ℕ) → getD (onFirst n) i 0 < 2 ^ 32
+unfolding zeros
 first-fits n zero = omega arith
-first-fits n (suc i) = omega (arith, getD-zeros (n - 1) i)
+first-fits n (suc i) = omega (arith, zero-at (n - 1) i)
 
 first-later : (n i : ℕ) → getD (onFirst n) (i + 1) 0 ≡ 0
-first-later n i = ap (λ (k : ℕ). getD (onFirst n) k 0) (add-one i) ∙ getD-zeros (n - 1) i
+unfolding zeros
+first-later n i = ap (λ (k : ℕ). getD (onFirst n) k 0) (add-one i) ∙ zero-at (n - 1) i
 
 module _ (s : List ℕ) (bytes : (i : ℕ) → getD s i 0 < 256) where
   abbrev M : ℕ
@@ -283,8 +271,9 @@ module _ (s : List ℕ) (bytes : (i : ℕ) → getD s i 0 < 256) where
 
       -- and by row 16 they sum to 1,000,000: so they are 1,000,000 and then zeros
       weight-is : (i : ℕ) → i < M → weightField s i ≡ getD (onFirst M) i 0
+      unfolding zeros
       weight-is zero h = sym (sum-first M (weightField s) (whole-2 .states-min) zero-later) ∙ accepted-model 2 2 s passed .limits .weights-sum (omega (arith, version-2 s is-2))
-      weight-is (suc i) h = ap (weightField s) (sym (add-one i)) ∙ zero-later i (omega arith) ∙ sym (getD-zeros (M - 1) i)
+      weight-is (suc i) h = ap (weightField s) (sym (add-one i)) ∙ zero-later i (omega arith) ∙ sym (zero-at (M - 1) i)
 
       weights-2 : fieldsOf s .weights ≡ onFirst M
       unfolding fieldsOf numbersAt

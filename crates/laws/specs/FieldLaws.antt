@@ -10,8 +10,10 @@ use lib.Dec.{eqb}
 use Rattle.definitions.specs.Sums.{firsts, pick}
 use Rattle.definitions.specs.Bytes.{bytesOf}
 use Rattle.definitions.specs.File.{lengthField, version, stateCount, highestMoment, toleranceField, timeField, distributions, rewardsAt}
+use Rattle.definitions.specs.Rules.{fittingLength}
 use Rattle.definitions.specs.Fields.{Fields, inVersion, numbersAt, wordsOf, fieldsOf, numbersOf, headed, headerOf, fileOf}
-use Rattle.laws.specs.WordLaws.{part-listed, bytes-listed, bytes-of-big, big-of-bytes, big-below, length-numbers, numbers-further, words-append, length-words, words-of-numbers, numbers-of-words, below-append, bytes-below, words-below, numbers-below}
+use Rattle.laws.specs.ByteLaws.{big-of-bytes, big-below}
+use Rattle.laws.specs.WordLaws.{part-listed, bytes-listed, bytes-of-big, length-numbers, numbers-further, words-append, length-words, words-of-numbers, numbers-of-words, below-append, bytes-below, words-below, numbers-below}
 
 -- M rewards and M rows of M − 1 rates are M × M numbers
 pub square : (n : ℕ) → 1 ≤ n → n + n * (n - 1) ≡ n * n
@@ -22,7 +24,7 @@ square (suc k) h = rw sub-one (omega arith)
 pub record Whole (s : List ℕ) : Type 0 where
   pub bytes : (i : ℕ) → getD s i 0 < 256
   pub states-min : 1 ≤ stateCount s
-  pub size : length s ≡ 4 * stateCount s * stateCount s + 4 * (distributions s * stateCount s) + 13
+  pub size : length s ≡ fittingLength s + 2
   pub counted : lengthField s ≡ length s - 2
 
 module _ (s : List ℕ) (whole : Whole s) where
@@ -116,8 +118,8 @@ module _ (f : Fields) where
   header-then-words = refl
 
   -- the file in its parts
-  file-in-parts : fileOf f ≡ front f ++ (wordsOf (f .weights) ++ (wordsOf (f .rewards) ++ wordsOf (f .rates)))
-  file-in-parts =
+  words-in-parts : fileOf f ≡ front f ++ (wordsOf (f .weights) ++ (wordsOf (f .rewards) ++ wordsOf (f .rates)))
+  words-in-parts =
       header-then-words
       ∙ ap (λ (l : List ℕ). front f ++ l) (words-append (f .weights) (f .rewards ++ f .rates))
       ∙ ap (λ (l : List ℕ). front f ++ (wordsOf (f .weights) ++ l)) (words-append (f .rewards) (f .rates))
@@ -163,7 +165,7 @@ module _ (f : Fields) where
     weights-of-file : fieldsOf (fileOf f) .weights ≡ f .weights
     unfolding fieldsOf
     weights-of-file =
-        ap₂ (λ (s : List ℕ) (n : ℕ). numbersAt s 13 n) file-in-parts weights-held
+        ap₂ (λ (s : List ℕ) (n : ℕ). numbersAt s 13 n) words-in-parts weights-held
         ∙ numbers-of-words (f .weights) (front f) (wordsOf (f .rewards) ++ wordsOf (f .rates)) 13 length-header (fits .weights-fit)
 
     -- what stands before the rewards, and before the rates
@@ -176,7 +178,7 @@ module _ (f : Fields) where
 
     at-rewards : fileOf f ≡ to-rewards ++ (wordsOf (f .rewards) ++ wordsOf (f .rates))
     unfolding to-rewards
-    at-rewards = file-in-parts ∙ sym (append-assoc (front f) (wordsOf (f .weights)) (wordsOf (f .rewards) ++ wordsOf (f .rates)))
+    at-rewards = words-in-parts ∙ sym (append-assoc (front f) (wordsOf (f .weights)) (wordsOf (f .rewards) ++ wordsOf (f .rates)))
 
     at-rates : fileOf f ≡ (to-rewards ++ wordsOf (f .rewards)) ++ (wordsOf (f .rates) ++ [])
     at-rates = at-rewards ∙ sym (append-assoc to-rewards (wordsOf (f .rewards)) (wordsOf (f .rates))) ∙ ap (λ (l : List ℕ). (to-rewards ++ wordsOf (f .rewards)) ++ l) (sym (append-nil (wordsOf (f .rates))))

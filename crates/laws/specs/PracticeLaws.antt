@@ -71,7 +71,7 @@ unfolding draw
 draw-later seed a k = let one : a + suc k ≡ suc (a + k) = omega arith in ap upper (stream-later seed a (suc k) ∙ ap (stream seed) one)
 
 -- a draw has 16 bits
-pub draw-max : (seed k : ℕ) → draw seed k ≤ 65535
+draw-max : (seed k : ℕ) → draw seed k ≤ 65535
 unfolding next stream upper draw
 draw-max seed k = omega (arith, quotient-below (next (stream seed k)) (2 ^ 16) (2 ^ 16) (remainder-below _ (2 ^ 32) (omega arith)))
 
@@ -114,7 +114,7 @@ module _ (M R seed : ℕ) (some : 1 ≤ M) where
       header : h ≡ headerOf f
       header = unfold practiceFields in λ i. record { version = v i; states = m i; highest = r i; tolerance = e i; time = t i }
 
-  pub length-of-dealt : length (practiceFile M R seed) ≡ 4 * (M * M) + 13
+  length-of-dealt : length (practiceFile M R seed) ≡ 4 * (M * M) + 13
   unfolding practiceFile
   length-of-dealt = omega (arith, length-file f, length-dealt)
 
@@ -165,7 +165,7 @@ module _ (M R seed : ℕ) (row : NoneHold (dimensions M R)) where
         length-fits = omega (arith, length-dealt M R seed (states-range .0), mul-le-mul (states-range .1) (states-range .1));
       }
 
-  pub fields-dealt : fieldsOf t ≡ g
+  fields-dealt : fieldsOf t ≡ g
   unfolding practiceFile
   fields-dealt = fields-of-file g fits
 
@@ -235,7 +235,7 @@ module _ (M R seed : ℕ) (row : NoneHold (dimensions M R)) where
   frame-passes newest new = framing-passes g fits 1 newest (le-refl 1) new row
 
   -- every call that admits version 1 accepts the file
-  pub dealt-accepted : (newest : ℕ) → 1 ≤ newest → fileJudgement 1 newest t ≡ accepted tt
+  dealt-accepted : (newest : ℕ) → 1 ≤ newest → fileJudgement 1 newest t ≡ accepted tt
   unfolding fileJudgement
   dealt-accepted newest new =
       all-pass (fileRows 1 newest t) (tt {0})
@@ -248,7 +248,7 @@ module _ (M R seed : ℕ) (row : NoneHold (dimensions M R)) where
   highest-is = highest-of-file g
 
   -- with M × R cells it has a level
-  pub dealt-figures : (cells : ℕ) → M * R ≤ cells → outcome t cells ≡ accepted (modelLevel (modelOf t))
+  dealt-figures : (cells : ℕ) → M * R ≤ cells → outcome t cells ≡ accepted (modelLevel (modelOf t))
   dealt-figures cells enough-cells =
       outcome-accepted t cells (judgement-in-parts t cells ∙ rw (dealt-accepted 2 (omega arith)) (enough (blockSize t) cells block))
     where

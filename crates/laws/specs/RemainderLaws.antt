@@ -18,7 +18,7 @@ use Rattle.laws.specs.ChainLaws.{SameChain}
 use Rattle.laws.specs.VectorLaws.{U-next, rowTotal-same, U-same}
 
 -- U(n,r) is the mix of its V and W
-pub U-mixed : (ch : Chain) (n r i : ℕ) → 1 ≤ n → 1 ≤ r → U ch n r i ≡ mix n r (meanOf ch n r i) (shareOf ch n r i)
+U-mixed : (ch : Chain) (n r i : ℕ) → 1 ≤ n → 1 ≤ r → U ch n r i ≡ mix n r (meanOf ch n r i) (shareOf ch n r i)
 unfolding nextEntry
 U-mixed ch zero r i hn hr = absurd (omega arith)
 U-mixed ch (suc n) zero i hn hr = absurd (omega arith)

@@ -1,5 +1,5 @@
 -- The test of a number's limits, and single rows of the tables, from the numbers that they compare: 4 and 5, 8 and 15, of a list of times, 16, and 9 to 13.
-use Prim.Native.Nat.{ℕ, zero, suc, _-_, _≤_, _<_}
+use Prim.Native.Nat.{ℕ, zero, suc, _+_, _-_, _≤_, _<_}
 use native.Mathlib.Omega.{arith}
 use native.Mathlib.Decide.{decLe}
 use mathlib.Core.Path.{_≡_, refl, sym, _∙_, ap, ap₂}
@@ -12,7 +12,7 @@ use Rattle.definitions.specs.Sums.{sum, largest, anyAbove}
 use Rattle.definitions.specs.File.{stateCount, rewardField}
 use Rattle.definitions.specs.Chain.{Model, modelOf, rowSum, uniformRate, maxReward}
 use Rattle.definitions.specs.Rules.{accepted, refused, outside, dimensions, misweighted, startsAtZero, fallsUpTo, jumps, room, judgedBy}
-use Rattle.laws.specs.SumLaws.{any-largest}
+use Rattle.laws.specs.SumLaws.{any-largest, le-largest, largest-le}
 use Rattle.laws.specs.RuleLaws.{row-stops, row-passes, none-left, none-hold}
 
 -- neither of two tests holds
@@ -119,6 +119,16 @@ module _ (s : List ℕ) where
   pub sums-within : uniformRate (modelOf s) ≤ 10000000 → anyAbove 10000000 (stateCount s) (rowSum (modelOf s)) ≡ false
   unfolding uniformRate
   sums-within h = not-above 10000000 (stateCount s) (rowSum (modelOf s)) (omega arith)
+
+-- row 17, of n weights: it holds where one but the first is above 0
+pub weight-found : (n : ℕ) (a : ℕ → ℕ) (i : ℕ) → 1 ≤ i → i < n → 0 < a i → anyAbove 0 (n - 1) (λ k. a (k + 1)) ≡ true
+weight-found n a i low high some =
+    let place : i - 1 + 1 ≡ i = omega arith in
+    any-largest 0 (n - 1) (λ k. a (k + 1)) ∙ lt-ltb 0 (largest (n - 1) (λ k. a (k + 1))) (omega (arith, some, ap a place, le-largest (n - 1) (λ k. a (k + 1)) (i - 1) (omega arith)))
+
+-- and passes where all but the first are 0
+pub none-found : (n : ℕ) (a : ℕ → ℕ) → ((i : ℕ) → 1 ≤ i → i < n → a i ≡ 0) → anyAbove 0 (n - 1) (λ k. a (k + 1)) ≡ false
+none-found n a zeros = any-largest 0 (n - 1) (λ k. a (k + 1)) ∙ le-ltb 0 (largest (n - 1) (λ k. a (k + 1))) (largest-le (n - 1) 0 (λ k. a (k + 1)) (λ k h. omega (arith, zeros (k + 1) (omega arith) (omega arith))))
 
 -- row 12: with equal numbers it answers the same
 pub same-jumps : {E' T' : ℕ} (E T : ℕ) → E' ≡ E → T' ≡ T → judgedBy (jumps E' T') ≡ judgedBy (jumps E T)

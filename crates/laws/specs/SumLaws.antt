@@ -112,7 +112,7 @@ sum-part n k f h = omega (arith, sum-longer n (k - n) f, ap (λ (m : ℕ). sum m
     whole = omega arith
 
 -- a sum of zeros; and where one entry alone is not 0, the sum is that entry
-pub sum-none : (n : ℕ) (f : ℕ → ℕ) → ((j : ℕ) → j < n → f j ≡ 0) → sum n f ≡ 0
+sum-none : (n : ℕ) (f : ℕ → ℕ) → ((j : ℕ) → j < n → f j ≡ 0) → sum n f ≡ 0
 unfolding sum
 sum-none zero f none = refl
 sum-none (suc n) f none = omega (arith, sum-none n f (λ j b. none j (omega arith)), none n (omega arith))

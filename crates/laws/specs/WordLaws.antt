@@ -1,18 +1,17 @@
 -- Numbers and lists of numbers as bytes: what is read is what was written, and what is written is what was read.
 use Prim.Native.Nat.{ℕ, zero, suc, _+_, _*_, _/_, _%_, _≤_, _<_, _^_}
 use native.Mathlib.Omega.{arith}
-use native.Mathlib.Nat.{pow-suc}
 use native.Mathlib.Numerals.{add-one}
 use mathlib.Core.Path.{_≡_, refl, sym, _∙_, ap, ap₂}
 use mathlib.Core.List.{List, [], _∷_, _++_, append-assoc, append-nil}
 use lib.ListN.{length, getD, take, drop, length-append, length-drop}
-use lib.Seq.{take-suc, take-add, drop-drop, getD-drop, getD-at}
+use lib.Seq.{take-suc, take-add, drop-drop, getD-drop}
 use Rattle.definitions.specs.Sums.{firsts}
 use Rattle.definitions.specs.Bytes.{big, bytesOf}
 use Rattle.definitions.specs.Fields.{numbersAt, wordsOf}
-use Rattle.laws.specs.Rounding.{quotient-unique, remainder-unique, quotient-below, quotient-remainder, remainder-below}
+use Rattle.laws.specs.Rounding.{quotient-unique, remainder-unique, remainder-below}
 use Rattle.laws.specs.ListLaws.{length-firsts, firsts-same}
-use Rattle.laws.specs.ByteLaws.{length-bytes}
+use Rattle.laws.specs.ByteLaws.{length-bytes, big-of-bytes, big-below}
 use Rattle.laws.specs.BlockLaws.{firsts-further}
 
 -- so many entries from the place at on, one by one
@@ -38,26 +37,6 @@ bytes-listed (suc width) at s low =
 -- and so this part of the list
 pub bytes-of-big : (width at : ℕ) (s : List ℕ) → ((i : ℕ) → getD s i 0 < 256) → at + width ≤ length s → bytesOf width (big width s at) ≡ take width (drop at s)
 bytes-of-big width at s low room = bytes-listed width at s low ∙ part-listed width at s room
-
--- a number that was written in so many bytes, and fits them, is read
-pub big-of-bytes : (width n : ℕ) (pre post : List ℕ) (at : ℕ) → length pre ≡ at → n < 256 ^ width → big width (pre ++ (bytesOf width n ++ post)) at ≡ n
-unfolding big bytesOf
-big-of-bytes zero n pre post at e fits = omega arith
-big-of-bytes (suc width) n pre post at e fits =
-    let before : List ℕ = bytesOf width (n / 256) in
-    let power : 256 ^ suc width ≡ 256 ^ width * 256 = pow-suc 256 width in
-    let upper : big width (pre ++ (before ++ (n % 256 ∷ post))) at ≡ n / 256 = big-of-bytes width (n / 256) pre (n % 256 ∷ post) at e (quotient-below n (256 ^ width) 256 (omega (arith, power, fits))) in
-    let place : length (pre ++ before) ≡ at + width = omega (arith, e, length-append pre before, length-bytes width (n / 256)) in
-    let last : getD (pre ++ (before ++ (n % 256 ∷ post))) (at + width) 0 ≡ n % 256 = ap (λ (l : List ℕ). getD l (at + width) 0) (sym (append-assoc pre before (n % 256 ∷ post))) ∙ getD-at (pre ++ before) (n % 256) post 0 (at + width) place in
-    rw (append-assoc before (n % 256 ∷ []) post) (omega (arith, upper, last, quotient-remainder n 256))
-
--- a number that was read from bytes fits them
-pub big-below : (width at : ℕ) (s : List ℕ) → ((i : ℕ) → getD s i 0 < 256) → big width s at < 256 ^ width
-unfolding big
-big-below zero at s low = omega arith
-big-below (suc width) at s low =
-    let power : 256 ^ suc width ≡ 256 ^ width * 256 = pow-suc 256 width in
-    omega (arith, power, low (at + width), big-below width at s low)
 
 -- how many numbers are read
 pub length-numbers : (s : List ℕ) (at n : ℕ) → length (numbersAt s at n) ≡ n

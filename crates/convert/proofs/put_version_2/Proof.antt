@@ -5,7 +5,7 @@ use native.Mathlib.Omega.{arith}
 use borrow.Author.Needs.{needs}
 use lib.ListN.{length, getD, drop, length-drop, length-take}
 use Rattle.definitions.specs.File.{lengthField}
-use Rattle.laws.specs.WordLaws.{big-below}
+use Rattle.laws.specs.ByteLaws.{big-below}
 use Rattle.laws.specs.Acceptance.{Framed, accepted-model}
 use Rattle.writing.specs.Puts.{then}
 use Rattle.convert.specs.Texts.{printed-there}

@@ -9,7 +9,7 @@ use Rattle.definitions.specs.File.{lengthField}
 use Rattle.definitions.specs.Rules.{Answer, accepted, fileJudgement, verdict}
 use Rattle.definitions.specs.Written.{countOf, bytesAfter}
 use Rattle.definitions.specs.Convert.{movedTo2}
-use Rattle.laws.specs.WordLaws.{big-below}
+use Rattle.laws.specs.ByteLaws.{big-below}
 use Rattle.laws.specs.Acceptance.{AcceptedModel, accepted-model}
 use Rattle.laws.specs.ConvertLaws.{refused-there, no-room-there, written-there, answer-there}
 use Rattle.convert.proofs.to_version_2.Statement.{statement}

@@ -8,7 +8,7 @@ use borrow.Author.Needs.{needs}
 use lib.ListN.{getD}
 use Rattle.definitions.specs.File.{stateCount, weightField}
 use Rattle.laws.specs.ChainLaws.{getD-padded}
-use Rattle.laws.specs.ConvertLaws.{weight-found, none-found}
+use Rattle.laws.specs.RowLaws.{weight-found, none-found}
 use Rattle.convert.proofs.weight_elsewhere.Statement.{statement}
 use Rattle.convert.proofs.weight_elsewhere.Tie as tie
 
