@@ -33,6 +33,14 @@ dealt1 =
     0x00 ∷ 0x1B ∷ 0x01 ∷ 0x02 ∷ 0x02 ∷ 0x00 ∷ 0x00 ∷ 0x27 ∷ 0x10 ∷ 0x00 ∷ 0x00 ∷ 0x00 ∷ 0x04 ∷ 0x00 ∷ 0x00 ∷ 0x5E
     ∷ 0x89 ∷ 0x00 ∷ 0x00 ∷ 0x81 ∷ 0x16 ∷ 0x00 ∷ 0x00 ∷ 0xB4 ∷ 0x73 ∷ 0x00 ∷ 0x00 ∷ 0x0C ∷ 0xF0 ∷ []
 
+-- M 1 and R 8. Seed number 4038459617 draws 4095 and 65535: 4095 over 4,096 is 0, so the time is 1, and the reward is 65536. Seed number 229854744
+-- draws 65535 twice: the time is 16, the latest.
+abbrev pub earliest : List ℕ
+earliest = 0x00 ∷ 0x0F ∷ 0x01 ∷ 0x01 ∷ 0x08 ∷ 0x00 ∷ 0x00 ∷ 0x27 ∷ 0x10 ∷ 0x00 ∷ 0x00 ∷ 0x00 ∷ 0x01 ∷ 0x00 ∷ 0x01 ∷ 0x00 ∷ 0x00 ∷ []
+
+abbrev pub latest : List ℕ
+latest = 0x00 ∷ 0x0F ∷ 0x01 ∷ 0x01 ∷ 0x08 ∷ 0x00 ∷ 0x00 ∷ 0x27 ∷ 0x10 ∷ 0x00 ∷ 0x00 ∷ 0x00 ∷ 0x10 ∷ 0x00 ∷ 0x01 ∷ 0x00 ∷ 0x00 ∷ []
+
 -- what is asked for, and the answer
 pub record Asked : Type 0 where
   pub states : ℕ
@@ -52,6 +60,8 @@ asked =
     ∷ record { states = 1; highest = 1; seed = 0; lent = 16; answer = refused 13 }
     ∷ record { states = 2; highest = 2; seed = 1; lent = 1000; answer = accepted dealt1 }
     ∷ record { states = 2; highest = 2; seed = 1; lent = 28; answer = refused 13 }
+    ∷ record { states = 1; highest = 8; seed = 4038459617; lent = 17; answer = accepted earliest }
+    ∷ record { states = 1; highest = 8; seed = 229854744; lent = 17; answer = accepted latest }
     ∷ record { states = 0; highest = 1; seed = 0; lent = 17; answer = refused 4 }
     ∷ record { states = 65; highest = 9; seed = 0; lent = 0; answer = refused 4 }
     ∷ record { states = 0x100000001; highest = 1; seed = 0; lent = 17; answer = refused 4 }
@@ -61,7 +71,7 @@ asked =
 
 pub all-answered : AllAnswered asked
 unfolding next stream upper draw firsts bytesOf wordsOf headed fileOf room firstHeld fileFor practiceFields practiceFile practice
-all-answered = (refl, (refl, (refl, (refl, (refl, (refl, (refl, (refl, (refl, tt)))))))))
+all-answered = (refl, (refl, (refl, (refl, (refl, (refl, (refl, (refl, (refl, (refl, (refl, tt)))))))))))
 
 -- what is lent past the file stays, and a refusal writes nothing
 pub bytes-after-dealing :
