@@ -20,6 +20,7 @@ pub mod Written
 pub mod Fields
 pub mod Convert
 pub mod Practice
+pub mod Numeral
 pub mod Sheet
 pub mod HandChecked
 pub mod StartChecked
