@@ -33,7 +33,7 @@ number-of-spec =
     let inside = call .before .before in
     let args = inside .before .before .before .before .args in
     let none-given = sym (call .with-digit .ensures) ∙ ap numeralAnswer (c .enum-told .given .1) in
-    sym (stops (args .most) (inside .loop-test .taken) none-given (inside .before .loop .inv .0)))
+    sym (stops (args .most) (omega arith) none-given (inside .before .loop .inv .0)))
     (λ c. omega arith)
     (λ c. omega arith)
     (λ c.
@@ -41,7 +41,7 @@ number-of-spec =
     let inside = call .before .before in
     let args = inside .before .before .before .before .args in
     let more-given = sym (call .with-digit .ensures) ∙ ap numeralAnswer (c .before .more .given .1) in
-    let on = goes-on (args .most) (inside .loop-test .taken) more-given (inside .before .loop .inv .0) in
+    let on = goes-on (args .most) (omega arith) more-given (inside .before .loop .inv .0) in
     (on .0, omega arith, on .1, omega arith))
     (λ c.
     let args = c .before .before .before .before .args in
