@@ -1,3 +1,4 @@
+pub mod Header
 pub mod Printed
 pub mod Puts
 pub mod TextLaws

@@ -1,14 +1,12 @@
 -- `writing::put_header` meets its contract: six texts, one after the other. Assumes nothing.
 use native.Mathlib.Omega.{arith}
 use borrow.Author.Needs.{needs}
-use Rattle.definitions.specs.Bytes.{bytesOf}
-use Rattle.definitions.specs.Fields.{headed}
+use Rattle.writing.specs.Header.{header-put}
 use Rattle.writing.specs.Puts.{then}
 use Rattle.writing.proofs.put_header.Statement.{statement}
 use Rattle.writing.proofs.put_header.Tie as tie
 
 returns : tie.Need-returns
-unfolding headed bytesOf
 returns c =
     let time = c .before .before in
     let tolerance = time .before .before .before .before .before in
@@ -16,7 +14,15 @@ returns c =
     let states = highest .before .before .before .before in
     let version = states .before .before .before .before in
     let later = version .before .before .before .before in
-    then (then (then (then (then (later .put-big .ensures) (version .put .ensures)) (states .put2 .ensures)) (highest .put3 .ensures)) (tolerance .put-big2 .ensures)) (time .put-big3 .ensures)
+    let args = later .before .before .before .args in
+    header-put (args .header) (args .numbers) _ _ _ _ _ _
+    (then (then (then (then (then (later .put-big .ensures) (version .put .ensures)) (states .put2 .ensures)) (highest .put3 .ensures)) (tolerance .put-big2 .ensures)) (time .put-big3 .ensures))
+    (omega arith)
+    (omega arith)
+    (omega arith)
+    (omega arith)
+    (omega arith)
+    (omega arith)
 
 pub put-header-spec : {M : Type 1} → statement M
 put-header-spec =
