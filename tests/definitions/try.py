@@ -49,7 +49,8 @@ use mathlib.Core.Path.{_≡_, refl}
 use lib.ListN.{length, getD}
 use Rattle.definitions.specs.Chain.{modelOf, chainOf}
 use Rattle.definitions.specs.Rules.{accepted, refused, lastTime}
-use Rattle.definitions.specs.Remainders.{given, none, numberAfter, meanOf, shareOf}
+use Rattle.definitions.specs.Maybe.{given, none}
+use Rattle.definitions.specs.Remainders.{numberAfter, meanOf, shareOf}
 use Rattle.definitions.specs.Written.{countOf, bytesAfter}
 """
 USE = "use Rattle.definitions.specs.{module}.{{{names}}}\n"

@@ -18,7 +18,8 @@ use Rattle.definitions.specs.Weights.{mode, rightward, leftward, weight,
 use Rattle.definitions.specs.Level.{tailBound, allowance, passes?, firstFrom, level}
 use Rattle.definitions.specs.Moment.{term, weighted, nearest, lastQuotient, weightedMean, moment, figureOf, cell, modelLevel, outcome, cellsAfter}
 use Rattle.definitions.specs.Series.{levelAt, levelsAfter, blocksAfter}
-use Rattle.definitions.specs.Remainders.{meanOf, shareOf, restsAt, none, given, restsOf, remaindersOf, numberAfter}
+use Rattle.definitions.specs.Maybe.{none, given}
+use Rattle.definitions.specs.Remainders.{meanOf, shareOf, restsAt, restsOf, remaindersOf, numberAfter}
 use Rattle.definitions.specs.Fraction.{Same, ratio, total, power}
 use Rattle.definitions.specs.Average.{exactMean, exactShare, exactMix, exactFirst, exactNext, exactU, factorial, exactWeight, averageOf, average}
 use Rattle.definitions.specs.Sheet.{digit, digits, places, decimal, figure, label, figureLine, figureLines, levelLine, sheetOf, lentCells, sheet, printedSheet}

@@ -6,7 +6,7 @@ use mathlib.Core.Path.{_≡_, refl}
 use lib.ListN.{length}
 use lib.Dec.{ltb, leb}
 use Rattle.definitions.specs.Sums.{pick}
-use Rattle.definitions.specs.Remainders.{Maybe, none, given}
+use Rattle.definitions.specs.Maybe.{Maybe, none, given}
 
 -- whether a byte is one of the digits 0 to 9
 abbrev pub isDigit : ℕ → Bool

@@ -5,6 +5,7 @@ use mathlib.Core.Bool.{Bool, _||_}
 use Rattle.definitions.specs.declared.Rests.{Rests}
 use Rattle.definitions.specs.declared.Remainders.{Remainders}
 use Rattle.definitions.specs.declared.Remainders.the-variants as answered
+use Rattle.definitions.specs.Maybe.{Maybe, none, given}
 use Rattle.definitions.specs.Sums.{pick}
 use Rattle.definitions.specs.Division.{Divides}
 use Rattle.definitions.specs.Chain.{Model, modelOf, Chain, chainOf}
@@ -38,11 +39,6 @@ restsAt ch n r i =
       share = shareDividend ch n r i % ch .largestReward;
       mix = mixDividend ch n r i % (n + r);
     }
-
--- what is given of something that need not be there
-pub data Maybe (A : Type 0) : Type 0 where
-  none : Maybe A
-  given : A → Maybe A
 
 -- the state, counted from 1, is outside 1 to M, n outside 1 to N or r outside 1 to R
 abbrev pub anyOutside : Model → ℕ → ℕ → ℕ → Bool

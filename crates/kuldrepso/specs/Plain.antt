@@ -4,7 +4,7 @@ use lib.Dec.{ltb}
 use Rattle.definitions.specs.Sums.{pick}
 use Rattle.definitions.specs.declared.Rests.{Rests}
 use Rattle.definitions.specs.Rules.{Answer, accepted, refused}
-use Rattle.definitions.specs.Remainders.{Maybe, none, given}
+use Rattle.definitions.specs.Maybe.{Maybe, none, given}
 
 -- what refusals start from
 abbrev pub refusalsFrom : ℕ

@@ -9,7 +9,7 @@ use Rattle.definitions.specs.declared.Rests.{Rests}
 use Rattle.definitions.specs.Chain.{modelOf}
 use Rattle.definitions.specs.Rules.{Answer, accepted, refused, fileJudgement, seriesJudgement}
 use Rattle.definitions.specs.Moment.{modelLevel, outcome}
-use Rattle.definitions.specs.Remainders.{Maybe, none, given}
+use Rattle.definitions.specs.Maybe.{Maybe, none, given}
 use Rattle.definitions.specs.Written.{countOf}
 use Rattle.definitions.specs.Convert.{ThereAndBack}
 use Rattle.definitions.specs.Practice.{DealtWell}

@@ -9,7 +9,8 @@ use Rattle.definitions.specs.Chain.{Model, Chain, modelOf, chainOf}
 use Rattle.definitions.specs.Rules.{Answer, accepted, refused, outside, fileRows, fileJudgement}
 use Rattle.definitions.specs.Vectors.{rowMean, rewardShare, mixed, mix, nextEntry, U}
 use Rattle.definitions.specs.Moment.{modelLevel}
-use Rattle.definitions.specs.Remainders.{meanOf, meanDividend, shareOf, shareDividend, mixDividend, restsAt, none, given, anyOutside, restsOf, remaindersOf, Worked, WorkedOut}
+use Rattle.definitions.specs.Maybe.{none, given}
+use Rattle.definitions.specs.Remainders.{meanOf, meanDividend, shareOf, shareDividend, mixDividend, restsAt, anyOutside, restsOf, remaindersOf, Worked, WorkedOut}
 use Rattle.laws.specs.Rounding.{divides}
 use Rattle.laws.specs.RuleLaws.{other-value}
 use Rattle.laws.specs.RowLaws.{neither, in-range}

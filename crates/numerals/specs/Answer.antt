@@ -1,6 +1,6 @@
 -- What `number_of` answers.
 use Prim.Native.Nat.{ℕ}
-use Rattle.definitions.specs.Remainders.{Maybe, none, given}
+use Rattle.definitions.specs.Maybe.{Maybe, none, given}
 use Rattle.numerals.specs.declared.Numeral.{Numeral}
 use Rattle.numerals.specs.declared.Numeral.the-variants as says
 

@@ -12,7 +12,7 @@ use lib.ListN.{length, drop, getD}
 use lib.Seq.{drop-cons, drop-length}
 use borrow.Author.Tests.{lt-ltb, le-leb, lt-leb, leb-true, leb-false}
 use Rattle.definitions.specs.Sums.{pick}
-use Rattle.definitions.specs.Remainders.{Maybe, none, given}
+use Rattle.definitions.specs.Maybe.{Maybe, none, given}
 use Rattle.definitions.specs.Numeral.{isDigit, allDigits, valueOf, numeral}
 
 -- a number with one digit more

@@ -1,7 +1,7 @@
 -- `numerals::with_digit` meets its contract: it tests for a digit and the limit, and never passes 64 bits. Assumes nothing.
 use mathlib.Core.Path.{_∙_, sym, ap}
 use native.Mathlib.Omega.{arith}
-use Rattle.definitions.specs.Remainders.{given}
+use Rattle.definitions.specs.Maybe.{given}
 use Rattle.numerals.specs.Reading.{below-0, above-9, from-0-to-9, no-digit, past-limit, within-limit}
 use Rattle.numerals.proofs.with_digit.Statement.{statement}
 use Rattle.numerals.proofs.with_digit.Tie as tie

@@ -7,7 +7,8 @@ use Rattle.definitions.specs.declared.Sizes.{Sizes}
 use Rattle.definitions.specs.declared.Rests.{Rests}
 use Rattle.definitions.specs.Chain.{modelOf}
 use Rattle.definitions.specs.Rules.{accepted, outside}
-use Rattle.definitions.specs.Remainders.{given, anyOutside}
+use Rattle.definitions.specs.Maybe.{given}
+use Rattle.definitions.specs.Remainders.{anyOutside}
 use Rattle.laws.specs.RemainderLaws.{rests-none, rests-given, inside}
 use Rattle.remainders.proofs.of_accepted.Statement.{statement}
 use Rattle.remainders.proofs.of_accepted.Tie as tie
