@@ -1,9 +1,9 @@
 #!/usr/bin/env python3
-"""Try ./calculate and ./build as their users do: shell commands, each with the status and the words that it must give.
+"""Try ./calculate, ./practice and ./build as their users do: shell commands, each with the status and the words that it must give.
 
     python3 tests/command/run.py
 
-Builds the program where the crates have changed since. The tests that change files work on a copy of the repository.
+Builds the programs where the crates have changed since. The tests that change files work on a copy of the repository.
 The last line is 'command: N tries, all as expected'; exit status 1 where one is not: each has its lines.
 """
 
@@ -11,6 +11,7 @@ import contextlib
 import os
 import pty
 import re
+import select
 import shutil
 import socket
 import subprocess
@@ -22,18 +23,30 @@ TIME_LIMIT = 300   # seconds for one command
 NOT_WHOLE = "calculate: the sheet could not be written whole\n"
 UNREADABLE = "calculator: the input cannot be read\n"
 CLOSED = "calculate: standard input is closed; a model file is read from it: ./calculate < FILE\n"
+NAMES = "build: give one name: calculator or dealer, the programs, or kuldrepso, the library\n"
+NOT_DEALT = "practice: the file cannot be written whole\n"
+UNWRITTEN = "practice: standard output is closed; the file is written to it\n"
 
 
-def stored(name):
-    """The bytes of a file of examples/."""
-    with open(os.path.join(ROOT, "examples", name), "rb") as source:
+def stored(name, folder="examples"):
+    """The bytes of a file of a folder."""
+    with open(os.path.join(ROOT, folder, name), "rb") as source:
         return source.read()
 
 
 A, B = stored("A.sheet"), stored("B.sheet")
+DEALT = stored("stdout", "crates/dealer")   # M 3, R 2 and seed number 1234
+DEALT_SHEET = (b"level 7\n"
+               b"1 1 0.457476159212\n"
+               b"1 2 0.259811317123\n"
+               b"2 1 0.919344847486\n"
+               b"2 2 0.871649004806\n"
+               b"3 1 0.531535524186\n"
+               b"3 2 0.307116530869\n")
 
 # A shell command, run in the repository's folder; the status, standard output and standard error that it must have.
-# LINK is a symbolic link to a symbolic link to ./calculate, PROGRAM the program itself, EMPTY an empty folder.
+# LINK is a symbolic link to a symbolic link to ./calculate, PROGRAM the program itself; DEAL_LINK and DEALER are those of ./practice.
+# EMPTY is an empty folder.
 COMMANDS = [
     ("./calculate < examples/B.model", 0, B, ""),
     ("./calculate < examples/B-start.model", 0, stored("B-start.sheet"), ""),
@@ -58,8 +71,8 @@ COMMANDS = [
     ("./calculate 0> /dev/null", 2, b"", UNREADABLE),
     ("./calculate examples/B.model < /dev/null", 2, b"",
      "calculate: takes no arguments; the model file is read from standard input: ./calculate < FILE\n"),
-    ("./build", 2, b"", "build: give one name: calculator, the program, or kuldrepso, the library\n"),
-    ("./build sheet", 2, b"", "build: give one name: calculator, the program, or kuldrepso, the library\n"),
+    ("./build", 2, b"", NAMES),
+    ("./build sheet", 2, b"", NAMES),
     ("\"$PROGRAM\" < examples/B.model", 0, B, ""),
     ("\"$PROGRAM\" < /dev/null", 0, b"refused 1\n", ""),
     ("\"$PROGRAM\" < examples", 0, b"", UNREADABLE),
@@ -67,7 +80,41 @@ COMMANDS = [
     ("\"$PROGRAM\" < examples/B.model > /dev/full", 0, b"", "calculator: the sheet cannot be written whole\n"),
     ("\"$PROGRAM\" < examples/B.model >&-", 0, b"", "calculator: the sheet cannot be written whole\n"),
     ("cp \"$PROGRAM\" \"$EMPTY\"/copy && \"$EMPTY\"/copy < examples/B.model", 0, B, ""),
+    ("./practice 3 2 1234", 0, DEALT, ""),
+    ("./practice 3 2 1234 | cat", 0, DEALT, ""),
+    ("./practice 003 02 00000000000000000000001234", 0, DEALT, ""),
+    ("./practice 3 2 1234 > \"$EMPTY\"/mine.model && ./calculate < \"$EMPTY\"/mine.model", 0, DEALT_SHEET, ""),
+    ("./practice 1 1 0", 0, bytes.fromhex("00 0F 01 01 01 00 00 27 10 00 00 00 04 00 00 47 51"), ""),
+    ("./practice 64 8 4294967295 | wc -c", 0, b"16397\n", ""),
+    ("cd / && \"$ROOT\"/practice 3 2 1234", 0, DEALT, ""),
+    ("cd tests && ../practice 3 2 1234", 0, DEALT, ""),
+    ("cd \"$EMPTY\" && \"$DEAL_LINK\" 3 2 1234", 0, DEALT, ""),
+    ("cd \"$EMPTY\" && PATH=$ROOT:$PATH practice 3 2 1234", 0, DEALT, ""),
+    ("./practice 3 2 1234 2>&-", 0, DEALT, ""),
+    ("./practice 3 2 1234 <&-", 0, DEALT, ""),
+    ("./practice 0 2 1234 2>&-", 1, b"", ""),
+    ("./practice 3 2 1234 > /dev/full", 2, b"", NOT_DEALT),
+    ("./practice 3 2 1234 > /dev/full 2>&-", 2, b"", ""),
+    ("set -o pipefail; { sleep 1; ./practice 3 2 1234; } | true", 2, b"", NOT_DEALT),
+    ("./practice 3 2 1234 >&-", 2, b"", UNWRITTEN),
+    ("./practice 0 2 1234 >&-", 2, b"", UNWRITTEN),
+    ("\"$DEALER\" 3 2 1234", 0, DEALT, ""),
+    ("\"$DEALER\" 3 2 1234 > /dev/full", 0, b"", NOT_DEALT),
+    ("\"$DEALER\" 3 2 1234 >&-", 0, b"", NOT_DEALT),
+    ("cp \"$DEALER\" \"$EMPTY\"/dealer && \"$EMPTY\"/dealer 3 2 1234", 0, DEALT, ""),
 ]
+
+# Arguments that ./practice and its program refuse, by what their line says. M is told before R, and R before the seed number.
+WRONG = {
+    "give M, R and a seed number, as in ./practice 3 2 1234": ["", "3", "3 2", "3 2 1234 1", "3 2 1234 ''"],
+    "M, the number of states, is to be a whole number from 1 to 64": [
+        "0 2 1234", "65 2 1234", "-3 2 1234", "+3 2 1234", "' 3' 2 1234", "'3 ' 2 1234", "3. 2 1234", "'' 2 1234", "three 2 1234", "0x3 2 1234",
+        "4294967299 2 1234", "18446744073709551615 2 1234", "18446744073709551619 2 1234", "0 0 x", "x 9 -1"],
+    "R, the highest moment, is to be a whole number from 1 to 8": [
+        "3 0 1234", "3 9 1234", "3 -2 1234", "3 '' 1234", "3 two 1234", "3 18446744073709551618 1234", "3 9 x"],
+    "the seed number is to be a whole number from 0 to 4294967295": [
+        "3 2 4294967296", "3 2 -1", "3 2 ''", "3 2 1e3", "3 2 12:4", "3 2 12/4", "3 2 18446744073709552850"],
+}
 
 tried = 0
 faults = []
@@ -91,14 +138,21 @@ def run(command, folder=ROOT, fed=None, **settings):
 
 def commands(room):
     """Every line of the table."""
-    places = {"LINK": os.path.join(room, "second link"), "EMPTY": os.path.join(room, "empty"),
-              "PROGRAM": run("./build calculator")[1].decode().strip()}
+    places = {"LINK": os.path.join(room, "second link"), "DEAL_LINK": os.path.join(room, "second deal link"),
+              "EMPTY": os.path.join(room, "empty"), "PROGRAM": run("./build calculator")[1].decode().strip(),
+              "DEALER": run("./build dealer")[1].decode().strip()}
     os.mkdir(places["EMPTY"])
     os.symlink(os.path.join(ROOT, "calculate"), os.path.join(room, "link"))
     os.symlink("link", places["LINK"])
+    os.symlink(os.path.join(ROOT, "practice"), os.path.join(room, "deal link"))
+    os.symlink("deal link", places["DEAL_LINK"])
     for command, status, output, words in COMMANDS:
         if "xxd" not in command or shutil.which("xxd"):
             expect(command, run(command, **places), (status, output, words))
+    for words, cases in WRONG.items():
+        for arguments in cases:
+            expect(f"./practice {arguments}", run(f"./practice {arguments}"), (1, b"", f"practice: {words}\n"))
+            expect(f"the dealer, {arguments}", run(f"\"$DEALER\" {arguments}", **places), (0, b"", f"practice: {words}\n"))
 
 
 def given(descriptor):
@@ -109,10 +163,14 @@ def given(descriptor):
 
 
 def terminal():
-    """With no file given, the command does not wait for one to be typed."""
+    """With no file given, ./calculate does not wait for one to be typed; ./practice writes no bytes to a screen."""
     ours, theirs = pty.openpty()
     expect("./calculate on a terminal", given(theirs),
            (2, b"", "calculate: no model file; one is read from standard input: ./calculate < FILE\n"))
+    done = subprocess.run(["./practice", "3", "2", "1234"], cwd=ROOT, stdin=theirs, stdout=theirs, stderr=subprocess.PIPE,
+                          timeout=TIME_LIMIT, check=False)
+    expect("./practice on a terminal", (done.returncode, done.stderr.decode(), select.select([ours], [], [], 0)[0]),
+           (2, "practice: the file is bytes, not text: ./practice 3 2 1234 > FILE\n", []))
     os.close(ours)
     os.close(theirs)
 
@@ -150,7 +208,7 @@ def copied(room):
     """A copy of what the commands need, with what ./build has proved."""
     copy = os.path.join(room, "a copy")
     os.makedirs(os.path.join(copy, "target"))
-    for name in ("build", "calculate", "crates.txt"):
+    for name in ("build", "calculate", "practice", "crates.txt"):
         shutil.copy(os.path.join(ROOT, name), copy)
     for name in ("crates", "docs", "examples", "target/build", "target/built"):
         shutil.copytree(os.path.join(ROOT, name), os.path.join(copy, name))
@@ -168,18 +226,26 @@ def edit(path, old, new):
     os.utime(path, ns=(times.st_atime_ns, times.st_mtime_ns))
 
 
+def built_anew(what, found, wanted, name, total):
+    """After an edit of the program the answer is that of the crates, with a line for each crate before its own line."""
+    status, output, words = found
+    lines = words.splitlines()
+    expect(f"{what}, edited", (status, output, lines[-1:]), wanted)
+    expect(f"{what}, edited: its first line", lines[0],
+           f"build: proving the crates and making {name}, a minute or two where nothing is proved yet")
+    counts = [re.sub(r": \w+$", "", line) for line in lines[1:-1]]
+    expect(f"{what}, edited: a line for each crate", counts, [f"build: {k} of {total}" for k in range(1, total + 1)])
+    expect(f"{what}, edited: its last crate", lines[-2], f"build: {total} of {total}: {name}")
+
+
 def rebuilt(copy):
     """After an edit that the prover accepts the answer is that of the crates; each crate has its line."""
     expect("a copy", run("./calculate < examples/B.model", copy), (0, B, ""))
+    expect("a copy's file", run("./practice 3 2 1234", copy), (0, DEALT, ""))
+    edit(os.path.join(copy, "crates", "dealer", "src", "main.rt"), "give M, R and a seed number", "give M, R and a seed")
+    built_anew("./practice", run("./practice", copy), (1, b"", ["practice: give M, R and a seed, as in ./practice 3 2 1234"]), "dealer", 8)
     edit(os.path.join(copy, "crates", "calculator", "src", "main.rt"), "the input cannot be read", "the input is unreadable")
-    status, output, words = run("./calculate < /", copy)
-    lines = words.splitlines()
-    expect("an edit that the prover accepts", (status, output, lines[-1:]), (2, b"", ["calculator: the input is unreadable"]))
-    expect("its first line", lines[0],
-           "build: proving the crates and making calculator, a minute or two where nothing is proved yet")
-    counts = [re.sub(r": \w+$", "", line) for line in lines[1:-1]]
-    expect("its lines, one for each crate", counts, [f"build: {k} of 14" for k in range(1, 15)])
-    expect("its last crate", lines[-2], "build: 14 of 14: calculator")
+    built_anew("./calculate", run("./calculate < /", copy), (2, b"", ["calculator: the input is unreadable"]), "calculator", 14)
     expect("the edited program again", run("./calculate < /", copy), (2, b"", "calculator: the input is unreadable\n"))
 
 
@@ -218,7 +284,7 @@ STAND_IN = """#!/bin/sh
 cat > /dev/null
 sleep $DELAY
 mkdir -p target/bin
-cp "$PROGRAM" target/bin/calculator
+cp "$PROGRAM" target/bin/$2
 eval "$MEANWHILE"
 tail -n 1 crates.txt >> "$CALLS"
 echo "$SAYS"
@@ -314,9 +380,12 @@ def in_trouble(stand):
     stand.fresh()
     expect("a program that is ended", stand.run(PROGRAM=stand.dies)[::2][0], 2)
     expect("its words", stand.run(PROGRAM=stand.dies)[1:], (b"", "calculate: the program ended with status 137\n"))
+    expect("a dealer that is ended", stand.run("./practice 3 2 1234", PROGRAM=stand.dies)[0], 2)
+    expect("its words", stand.run("./practice 3 2 1234 > /dev/null"), (2, b"", "practice: the program ended with status 137\n"))
     stand.fresh()
     write(stand.path("target"), "")
     expect("no folder to write to", stand.run(), (2, b"", f"build: no calculator: cannot write to {stand.copy}/target\n"))
+    expect("the same for a file", stand.run("./practice 3 2 1234"), (2, b"", f"build: no dealer: cannot write to {stand.copy}/target\n"))
     os.remove(stand.path("target"))
     os.remove(stand.path("docs/FORMAT.md"))
     stand.run()
