@@ -1,6 +1,6 @@
 #!/usr/bin/env python3
 """The definitions tried by an outside program: what the reference says of small generated files of both versions, alone,
-with lists of times, with a state, n and r, and of their moves to the other version, as theorems.
+with lists of times, with a state, n and r, of their moves to the other version, and of practice files, as theorems.
 
     python3 tests/definitions/try.py             every statement must be proved
     python3 tests/definitions/try.py --wrong     one number of each kind in a case is altered; each must be refused
@@ -15,10 +15,11 @@ n and r (S-4) is one four times: what the call answers (the rests of V, W and U,
 each of the three numbers after the call (which stay where no rests are given). Where they are given, a fifth says the
 quotients V, W and U. Each move of a file (S-5) is one twice: what the call answers (the count of bytes, or the refusal's
 number), and all bytes after the call (also those past the moved file, which stay). Where it is accepted, a third says the
-moved file. The numbers are the reference's. The theorems stand in a scratch crate outside the repository,
-which cites crates/definitions and is checked by `rt check DIR`. A refusal counts only where the prover names the
-altered statement and says that its two sides differ, and for each kind of number it must have shown the right and the
-altered one side by side.
+moved file. Each practice file (S-6), from M, R and a seed number, is one twice likewise; where it is accepted, a third
+says the file that is dealt, and a fourth its level, with M × R cells. The numbers are the reference's. The theorems stand
+in a scratch crate outside the repository, which cites crates/definitions and is checked by `rt check DIR`. A refusal
+counts only where the prover names the altered statement and says that its two sides differ, and for each kind of number
+it must have shown the right and the altered one side by side.
 """
 
 import copy
@@ -43,7 +44,7 @@ import models  # noqa: E402
 # --- All that names a definition. Those to unfold are read from the crate's specs/ (`unfoldable`). ------------
 
 HEAD = """\
-use Prim.Native.Nat.{ℕ, _-_}
+use Prim.Native.Nat.{ℕ, _-_, _*_}
 use mathlib.Core.List.{List, [], _∷_}
 use mathlib.Core.Path.{_≡_, refl}
 use lib.ListN.{length, getD}
@@ -71,7 +72,7 @@ ANSWER = {
     "none": "accepted none",
     "bytes": "accepted {}",
 }
-RIGHT = {"moved": "accepted ({})"}    # for the other parts, what is written is all
+RIGHT = {"moved": "accepted ({})", "dealt": "accepted ({})"}    # for the other parts, what is written is all
 LEFT = {
     "calculate": {
         "answer": "outcome {file} (length {cells})",
@@ -100,6 +101,12 @@ LEFT = {
         "answer": "countOf (toVersion1 {file} (length {out}))",
         "out": "bytesAfter (toVersion1 {file} (length {out})) {out}",
         "moved": "toVersion1 {file} (length {out})",
+    },
+    "practice": {
+        "answer": "countOf (practice {states} {highest} {seed} (length {out}))",
+        "out": "bytesAfter (practice {states} {highest} {seed} (length {out})) {out}",
+        "dealt": "practice {states} {highest} {seed} (length {out})",
+        "level": "outcome (practiceFile {states} {highest} {seed}) ({states} * {highest})",
     },
 }
 
@@ -423,14 +430,65 @@ def move_cases(rng, accepted, refused, refused_2):
     return result
 
 
+# --- The practice files ---------------------------------------------------------------------------------------
+
+def dealt_numbers(rng):
+    """{name: (M, R, seed number)} of practice files that no row stops: the seed numbers of inputs.SEEDS, those with a draw
+    of inputs.DRAWS (two states have all of these draws), R at its ends, and numbers of chance."""
+    def any_R():
+        return rng.randint(1, inputs.SIZES["highest"])
+    seeds = {name: (M, any_R(), seed) for M, (name, seed) in enumerate(inputs.SEEDS.items(), 1)}
+    draws = {name: (2, any_R(), inputs.seed_drawing(*draw, rng.getrandbits(16))) for name, draw in inputs.DRAWS.items()}
+    ends = {f"highest-{R}": (rng.randint(1, 3), R, rng.getrandbits(32)) for R in (1, inputs.SIZES["highest"])}
+    chance = {f"by-chance-{M}": (M, any_R(), rng.getrandbits(32)) for M in (1, 2, 3, 4, 6)}
+    return {**seeds, **draws, **ends, **chance}
+
+
+def refused_practice():
+    """(rule, M, R, count of bytes): M and R each at 0 and past their limits, alone and with later rows; then 13 alone, by
+    one byte, by all, with the bytes that the length field counts, and with those of a file of fewer states."""
+    far, large = 2**32 + 1, inputs.LARGEST    # far is 1 in 32 bits
+    one, two, four = map(inputs.dealt_length, (1, 2, 4))
+    return [
+        *((4, M, 1, one) for M in (0, 65, far, large)),
+        (4, 0, 8, 0),
+        (4, 0, 0, one),
+        (4, 65, 9, 0),
+        (4, far, far, one),
+        *((5, 1, R, one) for R in (0, 9, far, large)),
+        (5, 1, 9, one - 1),
+        (5, 2, 0, 0),
+        (5, 64, 9, two),
+        (13, 1, 8, one - 1),
+        (13, 1, 1, 0),
+        (13, 2, 2, two - 1),
+        (13, 2, 8, two - 2),
+        (13, 3, 1, two),
+        (13, 4, 3, four - 1),
+    ]
+
+
+def practice_cases(rng):
+    """Every practice file with the bytes that are lent; for those that are accepted just enough, or one or two more."""
+    def case(name, rule, M, R, seed, count):
+        return Case("practice", f"dealt-{name}", rule, dict(states=M, highest=R, seed=seed, out=lent(rng, count)))
+    result = []
+    for place, (name, (M, R, seed)) in enumerate(dealt_numbers(rng).items()):
+        result.append(case(name, 0, M, R, seed, inputs.dealt_length(M) + place % 3))
+    for place, (rule, M, R, count) in enumerate(refused_practice()):
+        result.append(case(f"rule-{rule}-{place}", rule, M, R, inputs.any_seed(rng), count))
+    return result
+
+
 def cases(rng):
-    """All files alone, then some of them with lists, then files with a state, n and r, then moves."""
+    """All files alone, then some of them with lists, then files with a state, n and r, then moves, then practice files."""
     accepted, refused, refused_2 = accepted_files(rng), refused_files(rng), refused_starts(rng)
     return [
         *file_cases(rng, accepted, refused, refused_2),
         *list_cases(rng, accepted, dict(refused), dict(refused_2)),
         *asked_cases(rng, refused, refused_2),
         *move_cases(rng, accepted, refused, refused_2),
+        *practice_cases(rng),
     ]
 
 
@@ -470,6 +528,10 @@ def right_facts(case):
         values["sheet"] = list(calculator.sheet(given["file"]))
     elif case.call == "series" and case.rule in (0, 12):
         values["file"] = list(inputs.with_time(given["file"], given["times"][-1]))
+    elif case.call == "practice" and answer[0] == "bytes":
+        M, R = given["states"], given["highest"]
+        file = calculator.dealt(M, R, given["seed"])
+        values.update(dealt=list(file), level=calculator.outcome(file, M * R))
     elif answer[0] == "bytes":
         values["moved"] = given["out"][:answer[1]]
     elif answer[0] == "given":
@@ -484,13 +546,25 @@ def given_values(file, state, n, r):
     return {"answer": (word, *rests), "quotients": [line.V, line.W, line.U]}
 
 
+def filled_count(case, part):
+    """How many numbers of a part a call fills."""
+    if case.rule:
+        return 0
+    return inputs.rooms(case.call, case.given)[1] if part in ("cells", "out") else len(case.given.get("times", [1]))
+
+
 def kinds(fact):
     """The kinds of number in a fact, each with the places where it stands."""
     case, part, value = fact.case, fact.part, fact.value
     same = KINDS.get(value[0] if part == "answer" else part)
     if same:
         return same.items()
-    file = case.given["file"]
+    if part == "dealt":
+        rates = 13 + 4 * case.given["states"]
+        return [("dealt-length", range(2)), ("dealt-version", [2]), ("dealt-states", [3]), ("dealt-highest", [4]),
+                ("dealt-tolerance", range(5, 9)), ("dealt-time", range(9, 13)), ("dealt-reward", range(13, rates)),
+                ("dealt-rate", range(rates, len(value)))]
+    file = case.given.get("file")
     if part == "sheet":
         lines = len(bytes(value).split(b"start")[0])    # those before the start's
         return [("byte", range(lines)), ("start-byte", range(lines, len(value)))]
@@ -498,12 +572,10 @@ def kinds(fact):
         weights = range(13, 13 + 4 * file[3]) if case.call == "to_version_2" else []
         return [("moved-length", range(2)), ("moved-version", [2]), ("moved-weight", weights),
                 ("moved-number", [place for place in range(3, len(value)) if place not in weights])]
-    times = len(case.given["times"]) if case.call == "series" else 1
-    size = {"cells": inputs.need(file), "out": inputs.moved_length(case.call, file)}.get(part, 1)
-    filled = range(0 if case.rule else times * size)
+    filled = range(filled_count(case, part))
     stays = range(len(filled), len(value))
     if part == "cells":
-        starts = [place for place in filled if place % size >= file[3] * file[4]]
+        starts = [place for place in filled if place % inputs.need(file) >= file[3] * file[4]]
         return [("moment", [place for place in filled if place not in starts]), ("start-figure", starts), ("cell-that-stays", stays)]
     name = {"levels": "level", "out": "byte"}.get(part, part)
     return [(name, filled), (f"{name}-that-stays", stays)]
@@ -514,6 +586,14 @@ def altered(value, place):
     if value[place] in OTHER:
         return OTHER[value[place]]
     return type(value)([*value[:place], value[place] ^ 1, *value[place + 1:]])
+
+
+def other_seed(fact):
+    """A practice file as the seed number one off deals it, and the first byte that differs, right and wrong."""
+    M, R, seed = (fact.case.given[each] for each in ("states", "highest", "seed"))
+    other = list(calculator.dealt(M, R, seed ^ 1))
+    right, wrong = next(pair for pair in zip(fact.value, other) if pair[0] != pair[1])
+    return fact._replace(label="seed", value=other), right, wrong
 
 
 def shown(value, place):
@@ -529,6 +609,8 @@ def wrong_facts(rng, facts):
                 place = rng.choice(places)
                 wrong = fact._replace(label=label, value=altered(fact.value, place))
                 yield wrong, shown(fact.value, place), shown(wrong.value, place)
+        if fact.part == "dealt":
+            yield other_seed(fact)
 
 
 def unfoldable():
@@ -641,7 +723,7 @@ def try_wrong(folder, wrongs):
 
 
 def main():
-    parser = models.Parser(description="State what the reference says of small files, alone, with lists of times, with a state, n and r, and moved, and let the prover check it.")
+    parser = models.Parser(description="State what the reference says of small files, alone, with lists of times, with a state, n and r, and moved, and of practice files, and let the prover check it.")
     parser.add_argument("--wrong", action="store_true", help="alter one number of each kind in a case; each must be refused")
     parser.add_argument("--seed", type=int, default=1)
     parser.add_argument("--keep", action="store_true", help="leave the scratch crate")
