@@ -1,7 +1,7 @@
 -- Practice files: the draws, the bytes of the file dealt, and that every call which reads files accepts it.
-use Prim.Native.Nat.{ℕ, zero, suc, _+_, _*_, _-_, _/_, _≤_, _<_, _^_}
+use Prim.Native.Nat.{ℕ, zero, suc, _+_, _*_, _-_, _/_, _%_, _≤_, _<_, _^_}
 use native.Mathlib.Omega.{arith}
-use native.Mathlib.Nat.{add-zero, mul-le-mul, le-refl}
+use native.Mathlib.Nat.{mod-add-mod, add-zero, mul-le-mul, le-refl}
 use native.Mathlib.Numerals.{add-one}
 use native.Mathlib.Decide.{ℕ-discrete}
 use mathlib.Core.Path.{_≡_, refl, sym, _∙_, ap, ap₂}
@@ -32,6 +32,14 @@ use Rattle.laws.specs.MomentLaws.{outcome-accepted}
 use Rattle.laws.specs.WrittenLaws.{stopped-by-table, stopped-by-room, is-written, was-written}
 use Rattle.laws.specs.FieldLaws.{square, Fits, length-file, fields-of-file, states-of-file, highest-of-file, version-of-file}
 use Rattle.laws.specs.FileLaws.{tolerance-held, time-held, framing-passes, reward-held, rate-held}
+
+-- cut after the product and after the sum is cut once
+pub next-in-parts : (previous factor product increment result : ℕ) → product ≡ previous * factor % 2 ^ 32 → result ≡ (product + increment) % 2 ^ 32 → factor ≡ 1664525 → increment ≡ 1013904223 → result ≡ next previous
+unfolding next
+next-in-parts previous factor product increment result p r f i =
+    r
+    ∙ ap₂ (λ (x y : ℕ). (x + y) % 2 ^ 32) (p ∙ ap (λ (k : ℕ). previous * k % 2 ^ 32) f) i
+    ∙ mod-add-mod (previous * 1664525) (2 ^ 32) 1013904223
 
 -- no step yet, and one step more
 pub stream-first : (seed : ℕ) → stream seed 0 ≡ seed
