@@ -105,15 +105,18 @@ COMMANDS = [
 ]
 
 # Arguments that ./practice and its program refuse, by what their line says. M is told before R, and R before the seed number.
+USAGE = "give M, R and a seed number, as in ./practice 3 2 1234 > FILE"
+WRONG_STATES = "M, the number of states, is to be a whole number from 1 to 64"
 WRONG = {
-    "give M, R and a seed number, as in ./practice 3 2 1234": ["", "3", "3 2", "3 2 1234 1", "3 2 1234 ''"],
-    "M, the number of states, is to be a whole number from 1 to 64": [
+    USAGE: ["", "3", "3 2", "3 2 1234 1", "3 2 1234 ''"],
+    WRONG_STATES: [
         "0 2 1234", "65 2 1234", "-3 2 1234", "+3 2 1234", "' 3' 2 1234", "'3 ' 2 1234", "3. 2 1234", "'' 2 1234", "three 2 1234", "0x3 2 1234",
         "4294967299 2 1234", "18446744073709551615 2 1234", "18446744073709551619 2 1234", "0 0 x", "x 9 -1"],
     "R, the highest moment, is to be a whole number from 1 to 8": [
         "3 0 1234", "3 9 1234", "3 -2 1234", "3 '' 1234", "3 two 1234", "3 18446744073709551618 1234", "3 9 x"],
     "the seed number is to be a whole number from 0 to 4294967295": [
-        "3 2 4294967296", "3 2 -1", "3 2 ''", "3 2 1e3", "3 2 12:4", "3 2 12/4", "3 2 18446744073709552850"],
+        "3 2 4294967296", "3 2 -1", "3 2 ''", "3 2 1e3", "3 2 12:4", "3 2 12/4", "3 2 18446744073709552850",
+        "3 2 ٣", "3 2 $(printf %05000d 3)"],
 }
 
 tried = 0
@@ -167,10 +170,12 @@ def terminal():
     ours, theirs = pty.openpty()
     expect("./calculate on a terminal", given(theirs),
            (2, b"", "calculate: no model file; one is read from standard input: ./calculate < FILE\n"))
-    done = subprocess.run(["./practice", "3", "2", "1234"], cwd=ROOT, stdin=theirs, stdout=theirs, stderr=subprocess.PIPE,
-                          timeout=TIME_LIMIT, check=False)
-    expect("./practice on a terminal", (done.returncode, done.stderr.decode(), select.select([ours], [], [], 0)[0]),
-           (2, "practice: the file is bytes, not text: ./practice 3 2 1234 > FILE\n", []))
+    for words, status, line in (("3 2 1234", 2, "the file is bytes, not text: send it to a file, as in ./practice 3 2 1234 > FILE"),
+                                ("", 1, USAGE), ("0 2 1234", 1, WRONG_STATES)):
+        done = subprocess.run(["./practice", *words.split()], cwd=ROOT, stdin=theirs, stdout=theirs, stderr=subprocess.PIPE,
+                              timeout=TIME_LIMIT, check=False)
+        expect(f"./practice {words} on a terminal", (done.returncode, done.stderr.decode(), select.select([ours], [], [], 0)[0]),
+               (status, f"practice: {line}\n", []))
     os.close(ours)
     os.close(theirs)
 
@@ -243,7 +248,7 @@ def rebuilt(copy):
     expect("a copy", run("./calculate < examples/B.model", copy), (0, B, ""))
     expect("a copy's file", run("./practice 3 2 1234", copy), (0, DEALT, ""))
     edit(os.path.join(copy, "crates", "dealer", "src", "main.rt"), "give M, R and a seed number", "give M, R and a seed")
-    built_anew("./practice", run("./practice", copy), (1, b"", ["practice: give M, R and a seed, as in ./practice 3 2 1234"]), "dealer", 8)
+    built_anew("./practice", run("./practice", copy), (1, b"", ["practice: give M, R and a seed, as in ./practice 3 2 1234 > FILE"]), "dealer", 8)
     edit(os.path.join(copy, "crates", "calculator", "src", "main.rt"), "the input cannot be read", "the input is unreadable")
     built_anew("./calculate", run("./calculate < /", copy), (2, b"", ["calculator: the input is unreadable"]), "calculator", 14)
     expect("the edited program again", run("./calculate < /", copy), (2, b"", "calculator: the input is unreadable\n"))

@@ -22,7 +22,7 @@ fn say_not_whole() {
     say(b"practice: the file cannot be written whole\n");
 }
 
-// The number that an argument says in decimal, or OUTSIDE where it says none of 64 bits.
+// The number that an argument says in decimal, or OUTSIDE where it says none of 64 bits or is longer than the buffer.
 fn argument(i: usize) -> u64 {
     let mut text = io::buffer();
     let length = os::arg(i, &mut text);
@@ -32,7 +32,7 @@ fn argument(i: usize) -> u64 {
     }
 }
 
-// What is wrong where the call refuses.
+// What is wrong where the call refuses. Row 13 cannot hold: the buffer has room for every file.
 fn say_refusal(row: u8) {
     match row {
         4 => say(b"practice: M, the number of states, is to be a whole number from 1 to 64\n"),
@@ -67,6 +67,6 @@ fn main() {
     if os::arg_count() == 4 {
         deal(argument(1), argument(2), argument(3));
     } else {
-        say(b"practice: give M, R and a seed number, as in ./practice 3 2 1234\n");
+        say(b"practice: give M, R and a seed number, as in ./practice 3 2 1234 > FILE\n");
     }
 }

@@ -1,4 +1,4 @@
-// The answers and the sizes that the calculator's functions share. The paper's answer for each case of an enum is defined in specs/:
+// The answers, sizes and headers that the calculator's functions share. The paper's answer for each case of an enum is defined in specs/:
 // of a Judgement in Rules.antt, of an Outcome in Moment.antt, of a Series in Series.antt, of Remainders in Remainders.antt, of Written in
 // Written.antt. The chain that stands in arrays of given Sizes is defined in Chain.antt.
 

@@ -9,7 +9,7 @@ use lib.ListN.{length, getD, drop}
 use lib.Dec.{eqb}
 use Rattle.definitions.specs.Sums.{pick}
 use Rattle.definitions.specs.Bytes.{big}
-use Rattle.definitions.specs.File.{version, stateCount, highestMoment, toleranceField, timeField, distributions, weightField, rewardsAt, rewardField, rowAt, place, rateField}
+use Rattle.definitions.specs.File.{stateCount, highestMoment, toleranceField, timeField, distributions, weightField, rewardsAt, rewardField, rowAt, place, rateField}
 use Rattle.definitions.specs.Chain.{Model, modelOf, jumpRate, rowSum, uniformRate, c, maxReward, jumpMillionths}
 use Rattle.definitions.specs.Rules.{dimensions, framing, quantities, misweighted, jumps, fileRows}
 use Rattle.definitions.specs.Moment.{moment, modelLevel}

@@ -1,4 +1,4 @@
--- Practice files: the draws, the bytes of the file dealt, and that every call which reads files accepts it.
+-- Practice files: the draws, the bytes of the file dealt, and that no row of a file's own stops it where version 1 is admitted.
 use Prim.Native.Nat.{ℕ, zero, suc, _+_, _*_, _-_, _/_, _%_, _≤_, _<_, _^_}
 use native.Mathlib.Omega.{arith}
 use native.Mathlib.Nat.{mod-add-mod, add-zero, mul-le-mul, le-refl}
@@ -11,7 +11,7 @@ use lib.ListN.{length, getD}
 use lib.Dec.{eqb}
 use borrow.Author.Tests.{eq-eqb, ne-eqb, le-ltb}
 use Rattle.definitions.specs.declared.Header.{Header}
-use Rattle.definitions.specs.Sums.{sum, firsts}
+use Rattle.definitions.specs.Sums.{firsts}
 use Rattle.definitions.specs.Bytes.{bytesOf}
 use Rattle.definitions.specs.File.{stateCount, highestMoment, timeField, toleranceField, distributions, rewardField, place}
 use Rattle.definitions.specs.Chain.{modelOf, jumpRate, rowSum, uniformRate, maxReward}
@@ -26,7 +26,7 @@ use Rattle.laws.specs.ListLaws.{length-firsts, firsts-same}
 use Rattle.laws.specs.BlockLaws.{firsts-further}
 use Rattle.laws.specs.WordLaws.{words-first, firsts-below}
 use Rattle.laws.specs.RuleLaws.{NoneHold, none-together, all-pass}
-use Rattle.laws.specs.RowLaws.{in-range, is-inside, in-dimensions, no-start, rewards-within, some-reward, sums-within, enough}
+use Rattle.laws.specs.RowLaws.{is-inside, dimensions-by, in-dimensions, no-start, rewards-within, some-reward, sums-within, enough}
 use Rattle.laws.specs.Acceptance.{judgement-in-parts}
 use Rattle.laws.specs.MomentLaws.{outcome-accepted}
 use Rattle.laws.specs.WrittenLaws.{stopped-by-table, stopped-by-room, is-written, was-written}
@@ -135,10 +135,10 @@ module _ (M R seed : ℕ) (row : NoneHold (dimensions M R)) where
   t = practiceFile M R seed
 
   states-range : (1 ≤ M) × (M ≤ 64)
-  states-range = in-range 1 64 M (row .0)
+  states-range = dimensions-by M R row .0
 
   highest-range : (1 ≤ R) × (R ≤ 8)
-  highest-range = in-range 1 8 R (row .1 .0)
+  highest-range = dimensions-by M R row .1
 
   -- a reward is at most 65,536, a rate at most 65,535, and the time at most 16
   reward-below : (i : ℕ) → getD (g .rewards) i 0 < 65537
@@ -242,7 +242,7 @@ module _ (M R seed : ℕ) (row : NoneHold (dimensions M R)) where
   unfolding practiceFields practiceFile
   frame-passes newest new = framing-passes g fits 1 newest (le-refl 1) new row
 
-  -- every call that admits version 1 accepts the file
+  -- rows 1 to 12 and 16 pass, for a call that admits version 1
   dealt-accepted : (newest : ℕ) → 1 ≤ newest → fileJudgement 1 newest t ≡ accepted tt
   unfolding fileJudgement
   dealt-accepted newest new =

@@ -13,7 +13,7 @@ use Rattle.definitions.specs.File.{stateCount, rewardField}
 use Rattle.definitions.specs.Chain.{Model, modelOf, rowSum, uniformRate, maxReward}
 use Rattle.definitions.specs.Rules.{accepted, refused, outside, dimensions, misweighted, startsAtZero, fallsUpTo, jumps, room, judgedBy}
 use Rattle.laws.specs.SumLaws.{any-largest, le-largest, largest-le}
-use Rattle.laws.specs.RuleLaws.{row-stops, row-passes, none-left, none-hold}
+use Rattle.laws.specs.RuleLaws.{row-stops, row-passes, none-left, NoneHold, none-hold}
 
 -- neither of two tests holds
 pub neither : (a b : Bool) → (a || b) ≡ false → (a ≡ false) × (b ≡ false)
@@ -36,10 +36,11 @@ pub same-limit : {high' : ℕ} (low high x : ℕ) → high' ≡ high → outside
 same-limit low high x e = ap (λ (k : ℕ). outside low k x) e
 
 -- what rows 4 and 5 let pass
+pub dimensions-by : (M R : ℕ) → NoneHold (dimensions M R) → ((1 ≤ M) × (M ≤ 64)) × ((1 ≤ R) × (R ≤ 8))
+dimensions-by M R row = (in-range 1 64 M (row .0), in-range 1 8 R (row .1 .0))
+
 pub in-dimensions : (M R : ℕ) → judgedBy (dimensions M R) ≡ accepted tt → ((1 ≤ M) × (M ≤ 64)) × ((1 ≤ R) × (R ≤ 8))
-in-dimensions M R passed =
-    let row = none-hold (dimensions M R) (tt {0}) tt passed in
-    (in-range 1 64 M (row .0), in-range 1 8 R (row .1 .0))
+in-dimensions M R passed = dimensions-by M R (none-hold (dimensions M R) (tt {0}) tt passed)
 
 -- row 8: a list without a time, and one with a first time
 pub without-a-time : (t : List ℕ) → length t ≡ 0 → startsAtZero t ≡ false

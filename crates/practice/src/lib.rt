@@ -64,7 +64,8 @@ fn put_draws(out: &mut [u8], at: usize, from: u32, count: usize) -> usize
 }
 
 // The practice file of so many states: the first draw is for the time, the second for the first reward, and the
-// later ones for the other rewards and the rates, in the order of the file.
+// later ones for the other rewards and the rates, in the order of the file. `rewards` and `others` are the places
+// where those numbers start.
 fn put_file(out: &mut [u8], states: u8, highest: u8, seed: u32) -> usize
     requires { ⌜ (1 ≤ states) × (states ≤ 64) × (4 * (states * states) + 13 ≤ length (now out)) ⌝ }
     ensures { λ r. ⌜ Printed (practiceFile states highest seed) (now (out .entry)) (now (out .exit)) r ⌝ }
@@ -83,8 +84,10 @@ fn put_file(out: &mut [u8], states: u8, highest: u8, seed: u32) -> usize
     let others = writing::put_big(out, rewards, upper(second) as u64 + 1, 4);
     put_draws(out, others, second, numbers - 1)
 }
+
 // Deals the practice file of M = states, R = highest and a seed number: the count of its bytes, or the number of
-// the first row that holds. Every file dealt is accepted by the calls that read one, and has figures.
+// the first row that holds. Rows 1 to 12 and 16 stop no file dealt where version 1 is admitted, and with M × R cells
+// it has figures.
 pub fn practice(states: u64, highest: u64, seed: u32, out: &mut [u8]) -> Written
     ensures answer { λ o. ⌜ writtenAnswer o ≡ countOf (practice states highest seed (length (now (out .entry)))) ⌝ }
     ensures bytes { λ o. ⌜ now (out .exit) ≡ bytesAfter (practice states highest seed (length (now (out .entry)))) (now (out .entry)) ⌝ }

@@ -1,7 +1,7 @@
 // Bytes in a lent slice.
 //
-// Each function stores its text from `at` on and returns the place after it. Its contract names the
-// text and says that no other byte changes.
+// Each function stores its text from a place on, `at` or for a header the start, and returns the place after it.
+// Its contract names the text and says that no other byte changes.
 ghost use mathlib.Core.Path.{_≡_};
 ghost use mathlib.Core.List.{[], _∷_};
 ghost use Prim.Native.Nat.{_+_, _*_, _/_, _%_, _^_, _<_, _≤_};
@@ -71,7 +71,8 @@ pub fn put_big(out: &mut [u8], at: usize, n: u64, width: usize) -> usize
     to
 }
 
-// The header of a file in which so many numbers follow, at the start of what is lent.
+// The header of a file in which so many numbers follow, at the start of what is lent. Each local is the place where that
+// field starts.
 pub fn put_header(out: &mut [u8], header: Header, numbers: usize) -> usize
     requires { ⌜ (4 * numbers + 11 < 2 ^ 16) × (13 ≤ length (now out)) ⌝ }
     ensures { λ r. ⌜ Puts (headed header numbers) 13 0 (now (out .entry)) (now (out .exit)) r ⌝ }
