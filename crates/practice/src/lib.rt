@@ -24,6 +24,7 @@ const INCREMENT: u32 = 1_013_904_223;
 // 2^32.
 const WRAP: u64 = 4_294_967_296;
 
+// The tolerance, in billionths.
 const TOLERANCE: u32 = 10_000;
 
 // a × b, cut to 32 bits.
