@@ -3,8 +3,8 @@ use Prim.Native.Nat.{ℕ, _+_, _*_, _-_, _≤_, _<_}
 use native.Mathlib.Omega.{arith}
 use mathlib.Core.Path.{_≡_, sym, _∙_, ap, ap₂, subst}
 use mathlib.Core.List.{List, [], _∷_, _++_}
-use lib.ListN.{length, getD, take, drop, replicate, length-drop}
-use lib.Seq.{take-all}
+use lib.ListN.{length, getD, take, drop, replicate}
+use borrow.Rule.Slice.PartAt.{part-to-end}
 use Rattle.definitions.specs.Bytes.{bytesOf}
 use Rattle.definitions.specs.File.{lengthField, stateCount}
 use Rattle.definitions.specs.Rules.{accepted, fileJudgement}
@@ -25,9 +25,6 @@ weighted states = bytesOf 4 1000000 ++ replicate (4 * (states - 1)) 0
 abbrev from : List ℕ → ℕ → List ℕ
 from s at = take (length s - at) (drop at s)
 
-all-from : (s : List ℕ) (at : ℕ) → from s at ≡ drop at s
-all-from s at = take-all (length s - at) (drop at s) (omega (arith, length-drop at s))
-
 module _ (s : List ℕ) (bytes : (i : ℕ) → getD s i 0 < 256) where
   pub printed-there : fileJudgement 1 1 s ≡ accepted tt → (later version states at most : ℕ) {old new : List ℕ} {n : ℕ} →
       Puts (bytesOf 2 later ++ (version ∷ []) ++ take 10 (drop 3 s) ++ (bytesOf 4 1000000 ++ replicate (4 * (states - 1)) 0) ++ take (length s - at) (drop at s)) most 0 old new n →
@@ -36,7 +33,7 @@ module _ (s : List ℕ) (bytes : (i : ℕ) → getD s i 0 < 256) where
       subst (λ (x : List ℕ). Printed x old new n)
       (ap₂ (λ (x y : ℕ). headed s x y ++ weighted states ++ from s at) e v
       ∙ ap₂ (λ (x y : ℕ). headed s (lengthField s + 4 * stateCount s) 2 ++ weighted x ++ from s y) m a
-      ∙ ap (λ (x : List ℕ). headed s (lengthField s + 4 * stateCount s) 2 ++ weighted (stateCount s) ++ x) (all-from s 13)
+      ∙ ap (λ (x : List ℕ). headed s (lengthField s + 4 * stateCount s) 2 ++ weighted (stateCount s) ++ x) (part-to-end s 13)
       ∙ sym (bytes-there s bytes passed))
       (printed room put)
 
@@ -47,6 +44,6 @@ module _ (s : List ℕ) (bytes : (i : ℕ) → getD s i 0 < 256) where
       subst (λ (x : List ℕ). Printed x old new n)
       (ap₂ (λ (x y : ℕ). headed s x y ++ from s at) e v
       ∙ ap (λ (x : ℕ). headed s (lengthField s - 4 * stateCount s) 1 ++ from s x) a
-      ∙ ap (λ (x : List ℕ). headed s (lengthField s - 4 * stateCount s) 1 ++ x) (all-from s (13 + 4 * stateCount s))
+      ∙ ap (λ (x : List ℕ). headed s (lengthField s - 4 * stateCount s) 1 ++ x) (part-to-end s (13 + 4 * stateCount s))
       ∙ sym (bytes-back s bytes passed))
       (printed room put)

@@ -2,7 +2,7 @@
 use Prim.Native.Nat.{ℕ, suc, _+_, _*_, _-_, _/_, _%_, _≤_, _<_}
 use native.Mathlib.Omega.{arith}
 use native.Mathlib.Nat.{mul-le-mul, mul-le-mul-left}
-use mathlib.Core.Path.{_≡_, refl, sym, _∙_, ap₂}
+use mathlib.Core.Path.{_≡_, refl, sym, _∙_, ap, ap₂}
 use mathlib.Core.List.{List}
 use lib.ListN.{getD}
 use borrow.Author.Tests.{lt-ltb, le-ltb}
@@ -15,7 +15,7 @@ use Rattle.definitions.specs.Moment.{term, weighted, lastQuotient, weightedMean
 use Rattle.definitions.specs.Rules.{Answer, accepted, refused, rows, judgement}
 use Rattle.laws.specs.Rounding.{quotient-at-most, quotient-below, quotient-unique, remainder-below, remainder-unique, row-of-place, place-in-row, place-below}
 use Rattle.laws.specs.Nearest.{nearest-within, nearest-at-most, nearest-up, nearest-down, nearest-rounds}
-use Rattle.laws.specs.SumLaws.{sum-mono}
+use Rattle.laws.specs.SumLaws.{sum-mono, sum-same}
 use Rattle.laws.specs.RuleLaws.{accepted-is-no-refusal, other-value}
 use Rattle.laws.specs.ListLaws.{getD-over}
 use Rattle.laws.specs.WeightLaws.{weightSum-min}
@@ -68,6 +68,13 @@ term-max w u h = quotient-at-most (w * u) w ONE (mul-le-mul-left w h)
 pub weighted-max : (X N : ℕ) (u : ℕ → ℕ) → ((n : ℕ) → n ≤ N → u n ≤ ONE) → weighted X u N ≤ weightSum X N
 unfolding weighted weightSum
 weighted-max X N u h = sum-mono (suc N) (λ n. term (weight X n) (u n)) (weight X) (λ n l. term-max (weight X n) (u n) (h n (omega arith)))
+
+-- equal values up to N have equal weighted means
+pub weighted-same : (X N : ℕ) (u v : ℕ → ℕ) → ((n : ℕ) → n ≤ N → u n ≡ v n) → weightedMean X u N ≡ weightedMean X v N
+unfolding weightedMean weighted
+weighted-same X N u v h =
+    ap (λ (a : ℕ). lastQuotient a (weightSum X N))
+    (sum-same (suc N) (λ n. term (weight X n) (u n)) (λ n. term (weight X n) (v n)) (λ n l. ap (term (weight X n)) (h n (omega arith))))
 
 -- the last quotient is at most ONE where A is at most S
 pub last-max : (A S : ℕ) → 0 < S → A ≤ S → lastQuotient A S ≤ ONE

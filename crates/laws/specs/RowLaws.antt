@@ -1,4 +1,4 @@
--- The test of a number's limits, and single rows of the tables, from the numbers that they compare: 4 and 5, 8 and 15, of a list of times, 16, and 9 to 13.
+-- The test of a number's limits, and single rows of the tables, from the numbers that they compare: 4 and 5, 8 and 15, of a list of times, 16, 9 to 13, and 17.
 use Prim.Native.Nat.{ℕ, zero, suc, _+_, _-_, _≤_, _<_}
 use native.Mathlib.Omega.{arith}
 use native.Mathlib.Decide.{decLe}

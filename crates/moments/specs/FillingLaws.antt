@@ -1,7 +1,7 @@
 -- The solution of what was read of an accepted file and list is the file's levels and blocks.
 use mathlib.Core.List.{List, [], _∷_}
 use mathlib.Core.Path.{_≡_, refl, sym, _∙_, ap, ap₂}
-use Prim.Native.Nat.{ℕ, suc, _+_, _*_, _-_, _/_, _%_, _≤_, _<_}
+use Prim.Native.Nat.{ℕ, _+_, _*_, _-_, _/_, _%_, _≤_, _<_}
 use native.Mathlib.Nat.{mul-le-mul-right}
 use native.Mathlib.Omega.{arith}
 use native.Mathlib.Decide.{decLt}
@@ -13,10 +13,9 @@ use Rattle.definitions.specs.Sums.{over, blocks, pick}
 use Rattle.definitions.specs.File.{stateCount, highestMoment, timeField, distributions, weightField}
 use Rattle.definitions.specs.Chain.{Model, Chain, modelOf, atTime, arrays, chainOf, uniformRate, jumpMillionths, padded, sizesOf}
 use Rattle.definitions.specs.Vectors.{U}
-use Rattle.definitions.specs.Weights.{weight, weightSum}
 use Rattle.definitions.specs.Level.{level}
 use Rattle.definitions.specs.Rules.{accepted, blockSize}
-use Rattle.definitions.specs.Moment.{term, weighted, lastQuotient, weightedMean, moment, startFigure, figureOf, cell, modelLevel, cellsAfter}
+use Rattle.definitions.specs.Moment.{weightedMean, moment, startFigure, figureOf, cell, modelLevel, cellsAfter}
 use Rattle.definitions.specs.Series.{modelAt, levelAt, levelsAfter, blocksAfter}
 use Rattle.laws.specs.Rounding.{row-of-place, place-in-row, place-below}
 use Rattle.laws.specs.SumLaws.{sum-same}
@@ -25,7 +24,7 @@ use Rattle.laws.specs.ListLaws.{getD-over, over-same}
 use Rattle.laws.specs.BlockLaws.{length-blocks, getD-blocks, blocks-same, blocks-again, blocks-kept, blocks-one}
 use Rattle.laws.specs.ChainLaws.{distributions-max, getD-padded, arrays-same, rate-at, chain-at}
 use Rattle.laws.specs.VectorLaws.{U-same}
-use Rattle.laws.specs.MomentLaws.{state-of-cell, figure-of-state, figure-of-start}
+use Rattle.laws.specs.MomentLaws.{weighted-same, state-of-cell, figure-of-state, figure-of-start}
 use Rattle.laws.specs.StartLaws.{mean-same}
 use Rattle.laws.specs.Demand3.{moment-max}
 use Rattle.laws.specs.Acceptance.{WithinLimits, AcceptedSeries, block-max}
@@ -35,19 +34,12 @@ use Rattle.means.specs.RunningLaws.{in-states}
 use Rattle.means.specs.Solving.{levelOf, cellMean, meansOf, Solvable}
 use Rattle.moments.specs.Filling.{ReadAs, started, Startable}
 
--- equal values up to N have equal weighted means
-mean-same-at : (X N : ℕ) (u v : ℕ → ℕ) → ((n : ℕ) → n ≤ N → u n ≡ v n) → weightedMean X u N ≡ weightedMean X v N
-unfolding weightedMean weighted
-mean-same-at X N u v h =
-    ap (λ (a : ℕ). lastQuotient a (weightSum X N))
-    (sum-same (suc N) (λ n. term (weight X n) (u n)) (λ n. term (weight X n) (v n)) (λ n l. ap (term (weight X n)) (h n (omega arith))))
-
 -- in a state's cell, the mean from the arrays of a model's chain is the model's moment, at any time
 cell-at : (m : Model) (l : List ℕ) (T N e : ℕ) → m .states ≤ 64 → e < m .states * m .highest → cellMean (held m l) (uniformRate m * T) (m .highest) N e ≡ moment (atTime m T) N (e % m .highest + 1) (e / m .highest)
 unfolding cellMean moment jumpMillionths
 cell-at m l T N e h b =
     in-states (m .states * m .highest) e _ b
-    ∙ mean-same-at (uniformRate m * T) N _ _
+    ∙ weighted-same (uniformRate m * T) N _ _
     (λ n low. U-same (held m l) (chainOf m) (arrays-same m l h) n (e % m .highest + 1) (e / m .highest) (state-of-cell e (m .states) (m .highest) b))
     ∙ ap₂ (λ (E : ℕ) (ch : Chain). weightedMean (E * T) (λ n. U ch n (e % m .highest + 1) (e / m .highest)) N) (sym (rate-at m T)) (sym (chain-at m T))
 

@@ -1,10 +1,10 @@
 -- `reader::row_of` meets its contract. Assumes nothing.
-use Prim.Native.Nat.{_-_, _≤_}
+use Prim.Native.Nat.{_≤_}
 use mathlib.Core.Path.{_≡_, _∙_}
 use native.Mathlib.Omega.{arith}
-use lib.ListN.{length, drop, length-drop}
-use lib.Seq.{take-all}
+use lib.ListN.{length}
 use borrow.Author.Needs.{needs}
+use borrow.Rule.Slice.PartAt.{part-to-end}
 use Rattle.definitions.specs.File.{rowAt}
 use Rattle.reader.specs.Framed.{row-room}
 use Rattle.reader.proofs.row_of.Statement.{statement}
@@ -21,11 +21,7 @@ module _ (c : tie.After-row-at) where
       omega (arith, start, row-room (begin .args .file .now) (begin .args .i) (begin .pre .0) (begin .pre .1))
 
 returns : tie.Need-returns
-returns c =
-    let file = c .before .before .before .args .file .now in
-    let at = c .before .row-at .result in
-    take-all (length file - at) (drop at file) (omega (arith, length-drop at file))
-    ∙ rw (start (c .before))
+returns c = part-to-end (c .before .before .before .args .file .now) (c .before .row-at .result) ∙ rw (start (c .before))
 
 pub row-of-spec : {M : Type 1} → statement M
 row-of-spec =
