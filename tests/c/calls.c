@@ -283,42 +283,42 @@ static uint8_t byte_before(size_t at) {
 }
 
 /* A call that writes a file, with `length` bytes of `file` to read and `count` bytes lent to write to: the answer is to be
- * `answer`, the first `written` of these bytes `moved`, and all else as before. */
+ * `answer`, the first `written` of these bytes `text`, and all else as before. */
 static void expect_out(const char *call_name, void (*call)(void), const uint8_t *file, size_t length, size_t count,
-                       uint64_t answer, const uint8_t *moved, size_t written) {
+                       uint64_t answer, const uint8_t *text, size_t written) {
     size_t at;
     for (at = 0; at < sizeof out; at++) out[at] = byte_before(at);
     out_length = count;
     run(call_name, call, file, length, answer);
     for (at = 0; at < sizeof out; at++) {
         int new_byte = at >= GUARD && at - GUARD < written;
-        if (out[at] != (new_byte ? moved[at - GUARD] : byte_before(at))) {
+        if (out[at] != (new_byte ? text[at - GUARD] : byte_before(at))) {
             fault("not as expected is written byte, the first such,", at - GUARD);
             break;
         }
     }
 }
 
-static void expect_move_refusal(const char *call_name, void (*call)(void), const uint8_t *file, size_t length,
-                                size_t count, int row) {
+static void expect_unwritten(const char *call_name, void (*call)(void), const uint8_t *file, size_t length,
+                             size_t count, int row) {
     expect_out(call_name, call, file, length, count, KULDREPSO_REFUSED + (uint64_t)row, NULL, 0);
 }
 
-/* The move or deal to `moved_length` bytes, with just as many, more and all lent; then with too few. */
-static void expect_moved(const char *call_name, void (*call)(void), const uint8_t *file, size_t length,
-                         const uint8_t *moved, size_t moved_length) {
-    expect_out(call_name, call, file, length, moved_length, moved_length, moved, moved_length);
-    expect_out(call_name, call, file, length, moved_length + 1, moved_length, moved, moved_length);
-    expect_out(call_name, call, file, length, OUT, moved_length, moved, moved_length);
-    expect_move_refusal(call_name, call, file, length, moved_length - 1, 13);
-    expect_move_refusal(call_name, call, file, length, 0, 13);
+/* The moved or dealt file, `written` bytes of `text`, with just as many, more and all lent; then with too few. */
+static void expect_written(const char *call_name, void (*call)(void), const uint8_t *file, size_t length,
+                           const uint8_t *text, size_t written) {
+    expect_out(call_name, call, file, length, written, written, text, written);
+    expect_out(call_name, call, file, length, written + 1, written, text, written);
+    expect_out(call_name, call, file, length, OUT, written, text, written);
+    expect_unwritten(call_name, call, file, length, written - 1, 13);
+    expect_unwritten(call_name, call, file, length, 0, 13);
 }
 
 /* There and back: a version 1 file, and the same in version 2 with all weight on state 1. */
 static void expect_pair(const char *call_name, const uint8_t *first, size_t first_length, const uint8_t *second,
                         size_t second_length) {
-    expect_moved(call_name, to_version_2, first, first_length, second, second_length);
-    expect_moved(call_name, to_version_1, second, second_length, first, first_length);
+    expect_written(call_name, to_version_2, first, first_length, second, second_length);
+    expect_written(call_name, to_version_1, second, second_length, first, first_length);
 }
 
 /* `number` in `width` bytes from `at` on, big-endian. */
@@ -555,23 +555,23 @@ static void move_papers(void) {
     expect_pair("A there and back", A, sizeof A, A2, sizeof A2);
     make_b2(file, 1000000, 0, 1);
     expect_pair("B there and back", B, sizeof B, file, sizeof B2);
-    expect_move_refusal("A2 to version 2", to_version_2, A2, sizeof A2, OUT, 3);
-    expect_move_refusal("A to version 1", to_version_1, A, sizeof A, OUT, 3);
+    expect_unwritten("A2 to version 2", to_version_2, A2, sizeof A2, OUT, 3);
+    expect_unwritten("A to version 1", to_version_1, A, sizeof A, OUT, 3);
     for (k = 0; k < EXAMPLE_COUNT; k++) {
         const struct example *row = &EXAMPLES[k];
         if (row->row == 13) continue;
         make(row, file);
-        expect_move_refusal(row->name, to_version_2, file, row->length, OUT, move_row(row, file, 1));
-        expect_move_refusal(row->name, to_version_2, file, row->length, 0, move_row(row, file, 1));
-        expect_move_refusal(row->name, to_version_1, file, row->length, OUT, move_row(row, file, 2));
-        expect_move_refusal(row->name, to_version_1, file, row->length, 0, move_row(row, file, 2));
+        expect_unwritten(row->name, to_version_2, file, row->length, OUT, move_row(row, file, 1));
+        expect_unwritten(row->name, to_version_2, file, row->length, 0, move_row(row, file, 1));
+        expect_unwritten(row->name, to_version_1, file, row->length, OUT, move_row(row, file, 2));
+        expect_unwritten(row->name, to_version_1, file, row->length, 0, move_row(row, file, 2));
     }
     for (k = 0; k < 3; k++) {
         make_b2(file, elsewhere[k][0], elsewhere[k][1], 1);
-        expect_move_refusal("B2, weight on state 2", to_version_1, file, sizeof B2, OUT, 17);
-        expect_move_refusal("B2, weight on state 2, no byte for it", to_version_1, file, sizeof B2, 0, 17);
+        expect_unwritten("B2, weight on state 2", to_version_1, file, sizeof B2, OUT, 17);
+        expect_unwritten("B2, weight on state 2, no byte for it", to_version_1, file, sizeof B2, 0, 17);
         make_b2(file, elsewhere[k][0], elsewhere[k][1], 257);
-        expect_move_refusal("B2, weight on state 2, time 257", to_version_1, file, sizeof B2, OUT, 12);
+        expect_unwritten("B2, weight on state 2, time 257", to_version_1, file, sizeof B2, OUT, 12);
     }
 }
 
@@ -588,8 +588,8 @@ static void expect_row(const char *call_name, const uint8_t *file, size_t length
     expect_series_refusal(call_name, none, row);
     expect_remainders(file, length, &inside);
     expect_remainders(file, length, &outside);
-    expect_move_refusal(call_name, to_version_1, file, length, OUT, row);
-    expect_move_refusal(call_name, to_version_1, file, length, 0, row);
+    expect_unwritten(call_name, to_version_1, file, length, OUT, row);
+    expect_unwritten(call_name, to_version_1, file, length, 0, row);
 }
 
 /* Sums past 32 bits, the second of them 1,000,000 in its low 32 bits; and a sum one above together with each row about it. */
@@ -676,7 +676,7 @@ static const struct deal REFUSED_DEALS[13] = {
 
 static void expect_dealt(const struct deal *asked_deal, const uint8_t *file, size_t length) {
     deal = asked_deal;
-    expect_moved(deal->name, practice, NULL, 0, file, length);
+    expect_written(deal->name, practice, NULL, 0, file, length);
 }
 
 /* With one state every moment is one, as A's are. The moments of the others are from the independent calculation in
@@ -694,8 +694,8 @@ static void practice_papers(void) {
     expect_level(DEALS[5].name, DEALT[5], 17, 3, 1, A_MOMENTS, 3);
     for (k = 0; k < sizeof REFUSED_DEALS / sizeof REFUSED_DEALS[0]; k++) {
         deal = &REFUSED_DEALS[k];
-        expect_move_refusal(deal->name, practice, NULL, 0, OUT, deal->row);
-        expect_move_refusal(deal->name, practice, NULL, 0, 0, deal->row);
+        expect_unwritten(deal->name, practice, NULL, 0, OUT, deal->row);
+        expect_unwritten(deal->name, practice, NULL, 0, 0, deal->row);
     }
 }
 
@@ -706,8 +706,8 @@ static void no_elements(void) {
     expect_series_refusal("no element at all", none, 1);
     expect_series_refusal("one time and nothing else", time, 1);
     expect_series_refusal("A, one time, no level and no cell", list, 13);
-    expect_move_refusal("no byte to version 2, and none for it", to_version_2, A, 0, 0, 1);
-    expect_move_refusal("no byte to version 1, and none for it", to_version_1, A2, 0, 0, 1);
+    expect_unwritten("no byte to version 2, and none for it", to_version_2, A, 0, 0, 1);
+    expect_unwritten("no byte to version 1, and none for it", to_version_1, A2, 0, 0, 1);
 }
 
 /* The longest file of a version, and its length: 64 states with the same reward and no rates, R = 8, so that every moment
@@ -747,13 +747,13 @@ static void longest(void) {
 static void longest_moves(void) {
     static uint8_t first[BYTES], second[BYTES];
     size_t k, first_length = make_longest(first, 1), second_length = make_longest(second, 2);
-    expect_move_refusal("the longest file, weight on all states", to_version_1, second, second_length, OUT, 17);
+    expect_unwritten("the longest file, weight on all states", to_version_1, second, second_length, OUT, 17);
     for (k = 0; k < 64; k++) put(second, 13 + 4 * k, 4, k == 0 ? 1000000 : 0);
     expect_pair("the longest file there and back", first, first_length, second, second_length);
     put(second, 13, 4, 999999);
     for (k = 1; k < 64; k++) {
         put(second, 13 + 4 * k, 4, 1);
-        expect_move_refusal("the longest file, weight on another state", to_version_1, second, second_length, OUT, 17);
+        expect_unwritten("the longest file, weight on another state", to_version_1, second, second_length, OUT, 17);
         put(second, 13 + 4 * k, 4, 0);
     }
     for (k = 0; k < 64; k++) put(second, 13 + 4 * k, 4, 4294967295);

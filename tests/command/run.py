@@ -296,14 +296,16 @@ echo "$SAYS"
 exit $STATUS
 """
 DIES = "#!/bin/sh\necho level 3\nkill -9 $$\n"
+FAILS = "#!/bin/sh\necho no such library >&2\nexit 127\n"
 
 
 class StandIn:
     """./calculate in the copy, from nothing, with the stand-in for rt."""
 
     def __init__(self, room, copy):
-        self.copy, self.calls, self.dies = copy, os.path.join(room, "calls"), os.path.join(room, "dies")
-        for path, text in ((os.path.join(room, "bin", "rt"), STAND_IN), (self.dies, DIES)):
+        self.copy, self.calls = copy, os.path.join(room, "calls")
+        self.dies, self.fails = os.path.join(room, "dies"), os.path.join(room, "fails")
+        for path, text in ((os.path.join(room, "bin", "rt"), STAND_IN), (self.dies, DIES), (self.fails, FAILS)):
             os.makedirs(os.path.dirname(path), exist_ok=True)
             with open(path, "w", encoding="utf-8") as target:
                 target.write(text)
@@ -387,6 +389,9 @@ def in_trouble(stand):
     expect("its words", stand.run(PROGRAM=stand.dies)[1:], (b"", "calculate: the program ended with status 137\n"))
     expect("a dealer that is ended", stand.run("./practice 3 2 1234", PROGRAM=stand.dies)[0], 2)
     expect("its words", stand.run("./practice 3 2 1234 > /dev/null"), (2, b"", "practice: the program ended with status 137\n"))
+    stand.fresh()
+    expect("a dealer that cannot run", stand.run("./practice 3 2 1234", PROGRAM=stand.fails)[2].splitlines()[-1],
+           "practice: the program ended with status 127: no such library")
     stand.fresh()
     write(stand.path("target"), "")
     expect("no folder to write to", stand.run(), (2, b"", f"build: no calculator: cannot write to {stand.copy}/target\n"))

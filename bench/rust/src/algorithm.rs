@@ -243,7 +243,7 @@ mod refusals {
         x < low || x > high
     }
 
-    pub fn judge_dimensions(states: u64, highest: u64) -> Judgement {
+    fn judge_dimensions(states: u64, highest: u64) -> Judgement {
         if outside(1, MOST_STATES, states) {
             return Judgement::Refused(4);
         }

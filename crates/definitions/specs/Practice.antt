@@ -49,8 +49,8 @@ practiceFile M R seed = fileOf (practiceFields M R seed)
 unfoldable pub practice : ℕ → ℕ → ℕ → ℕ → Answer (List ℕ)
 practice M R seed lent = fileFor (dimensions M R) (practiceFile M R seed) lent
 
--- the file t is good to practise on: it states the fields dealt, rows 1 to 12 and 16 accept it for every call that admits version 1, and with M × R
--- cells or more it has a level and figures
+-- the file t is good to practise on: it states the fields dealt, rows 1 to 12 and 16 accept it at its own time, for every call that admits version
+-- 1, and with M × R cells or more it has a level and figures
 pub record Dealt (M R seed : ℕ) (t : List ℕ) : Type 0 where
   pub states-fields : fieldsOf t ≡ practiceFields M R seed
   pub accepts : (newest : ℕ) → 1 ≤ newest → fileJudgement 1 newest t ≡ accepted tt

@@ -33,6 +33,13 @@ dealt1 =
     0x00 ∷ 0x1B ∷ 0x01 ∷ 0x02 ∷ 0x02 ∷ 0x00 ∷ 0x00 ∷ 0x27 ∷ 0x10 ∷ 0x00 ∷ 0x00 ∷ 0x00 ∷ 0x04 ∷ 0x00 ∷ 0x00 ∷ 0x5E
     ∷ 0x89 ∷ 0x00 ∷ 0x00 ∷ 0x81 ∷ 0x16 ∷ 0x00 ∷ 0x00 ∷ 0xB4 ∷ 0x73 ∷ 0x00 ∷ 0x00 ∷ 0x0C ∷ 0xF0 ∷ []
 
+-- M 3, R 2 and seed number 1234: time 12, rewards 13567, 49121 and 22679, rates 52654, 19465, 15953, 11323, 17186 and 31014
+abbrev pub dealt1234 : List ℕ
+dealt1234 =
+    0x00 ∷ 0x2F ∷ 0x01 ∷ 0x03 ∷ 0x02 ∷ 0x00 ∷ 0x00 ∷ 0x27 ∷ 0x10 ∷ 0x00 ∷ 0x00 ∷ 0x00 ∷ 0x0C ∷ 0x00 ∷ 0x00 ∷ 0x34
+    ∷ 0xFF ∷ 0x00 ∷ 0x00 ∷ 0xBF ∷ 0xE1 ∷ 0x00 ∷ 0x00 ∷ 0x58 ∷ 0x97 ∷ 0x00 ∷ 0x00 ∷ 0xCD ∷ 0xAE ∷ 0x00 ∷ 0x00 ∷ 0x4C ∷ 0x09
+    ∷ 0x00 ∷ 0x00 ∷ 0x3E ∷ 0x51 ∷ 0x00 ∷ 0x00 ∷ 0x2C ∷ 0x3B ∷ 0x00 ∷ 0x00 ∷ 0x43 ∷ 0x22 ∷ 0x00 ∷ 0x00 ∷ 0x79 ∷ 0x26 ∷ []
+
 -- M 1 and R 8. Seed number 4038459617 draws 4095 and 65535: 4095 over 4,096 is 0, so the time is 1, and the reward is 65536. Seed number 229854744
 -- draws 65535 twice: the time is 16, the latest.
 abbrev pub earliest : List ℕ
@@ -60,6 +67,7 @@ asked =
     ∷ record { states = 1; highest = 1; seed = 0; lent = 16; answer = refused 13 }
     ∷ record { states = 2; highest = 2; seed = 1; lent = 1000; answer = accepted dealt1 }
     ∷ record { states = 2; highest = 2; seed = 1; lent = 28; answer = refused 13 }
+    ∷ record { states = 3; highest = 2; seed = 1234; lent = 49; answer = accepted dealt1234 }
     ∷ record { states = 1; highest = 8; seed = 4038459617; lent = 17; answer = accepted earliest }
     ∷ record { states = 1; highest = 8; seed = 229854744; lent = 17; answer = accepted latest }
     ∷ record { states = 0; highest = 1; seed = 0; lent = 17; answer = refused 4 }
@@ -71,7 +79,7 @@ asked =
 
 pub all-answered : AllAnswered asked
 unfolding next stream upper draw firsts bytesOf wordsOf headed fileOf room firstHeld fileFor practiceFields practiceFile practice
-all-answered = (refl, (refl, (refl, (refl, (refl, (refl, (refl, (refl, (refl, (refl, (refl, tt)))))))))))
+all-answered = (refl, (refl, (refl, (refl, (refl, (refl, (refl, (refl, (refl, (refl, (refl, (refl, tt))))))))))))
 
 -- what is lent past the file stays, and a refusal writes nothing
 pub bytes-after-dealing :

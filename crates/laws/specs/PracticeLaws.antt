@@ -1,4 +1,4 @@
--- Practice files: the draws, the bytes of the file dealt, and that no row of a file's own stops it where version 1 is admitted.
+-- Practice files: the draws, the bytes of the file dealt, and that rows 1 to 12 and 16 do not stop it at its own time, where version 1 is admitted.
 use Prim.Native.Nat.{ℕ, zero, suc, _+_, _*_, _-_, _/_, _%_, _≤_, _<_, _^_}
 use native.Mathlib.Omega.{arith}
 use native.Mathlib.Nat.{mod-add-mod, add-zero, mul-le-mul, le-refl}
@@ -83,185 +83,184 @@ draw-max : (seed k : ℕ) → draw seed k ≤ 65535
 unfolding next stream upper draw
 draw-max seed k = omega (arith, quotient-below (next (stream seed k)) (2 ^ 16) (2 ^ 16) (remainder-below _ (2 ^ 32) (omega arith)))
 
--- rewards and rates of a practice file, counted from 0: number k + 1 is draw k + 2
-module _ (M R seed : ℕ) (some : 1 ≤ M) where
+-- the fields dealt
+module _ (M R seed : ℕ) where
   abbrev f : Fields
   f = practiceFields M R seed
 
-  numbers-dealt : numbersOf f ≡ (draw seed 1 + 1) ∷ firsts (M * M - 1) (λ k. draw seed (2 + k))
-  unfolding practiceFields
-  numbers-dealt = ap (λ (l : List ℕ). (draw seed 1 + 1) ∷ l) (rates ∙ sym (ap (λ (n : ℕ). firsts n (λ k. draw seed (2 + k))) all ∙ firsts-further (M - 1) (M * (M - 1)) (λ k. draw seed (2 + k))))
-    where
-      all : M * M - 1 ≡ (M - 1) + M * (M - 1)
-      all = omega (arith, square M some)
+  -- rewards and rates of a practice file, counted from 0: number k + 1 is draw k + 2
+  module _ (some : 1 ≤ M) where
+    numbers-dealt : numbersOf f ≡ (draw seed 1 + 1) ∷ firsts (M * M - 1) (λ k. draw seed (2 + k))
+    unfolding practiceFields
+    numbers-dealt = ap (λ (l : List ℕ). (draw seed 1 + 1) ∷ l) (rates ∙ sym (ap (λ (n : ℕ). firsts n (λ k. draw seed (2 + k))) all ∙ firsts-further (M - 1) (M * (M - 1)) (λ k. draw seed (2 + k))))
+      where
+        all : M * M - 1 ≡ (M - 1) + M * (M - 1)
+        all = omega (arith, square M some)
 
-      rates : firsts (M - 1) (λ i. draw seed (2 + i)) ++ firsts (M * (M - 1)) (λ k. draw seed (1 + M + k)) ≡ firsts (M - 1) (λ i. draw seed (2 + i)) ++ firsts (M * (M - 1)) (λ i. draw seed (2 + (M - 1 + i)))
-      rates = ap (λ (l : List ℕ). firsts (M - 1) (λ i. draw seed (2 + i)) ++ l) (firsts-same (M * (M - 1)) _ _ (λ k l. ap (draw seed) (omega arith)))
+        rates : firsts (M - 1) (λ i. draw seed (2 + i)) ++ firsts (M * (M - 1)) (λ k. draw seed (1 + M + k)) ≡ firsts (M - 1) (λ i. draw seed (2 + i)) ++ firsts (M * (M - 1)) (λ i. draw seed (2 + (M - 1 + i)))
+        rates = ap (λ (l : List ℕ). firsts (M - 1) (λ i. draw seed (2 + i)) ++ l) (firsts-same (M * (M - 1)) _ _ (λ k l. ap (draw seed) (omega arith)))
 
-  length-dealt : length (numbersOf f) ≡ M * M
-  length-dealt = ap (length {A = ℕ}) numbers-dealt ∙ omega (arith, length-firsts (M * M - 1) (λ k. draw seed (2 + k)), square M some)
+    length-dealt : length (numbersOf f) ≡ M * M
+    length-dealt = ap (length {A = ℕ}) numbers-dealt ∙ omega (arith, length-firsts (M * M - 1) (λ k. draw seed (2 + k)), square M some)
 
-  -- the file: its header, the first reward, and the draws after it
-  bytes-dealt : practiceFile M R seed ≡ headed (headerOf f) (M * M) ++ (bytesOf 4 (draw seed 1 + 1) ++ wordsOf (firsts (M * M - 1) (λ k. draw seed (2 + k))))
-  unfolding fileOf practiceFile
-  bytes-dealt =
-      ap₂ (λ (n : ℕ) (l : List ℕ). headed (headerOf f) n ++ wordsOf l) length-dealt numbers-dealt
-      ∙ ap (λ (l : List ℕ). headed (headerOf f) (M * M) ++ l) (words-first (draw seed 1 + 1) (firsts (M * M - 1) (λ k. draw seed (2 + k))))
+    -- the file: its header, the first reward, and the draws after it
+    bytes-dealt : practiceFile M R seed ≡ headed (headerOf f) (M * M) ++ (bytesOf 4 (draw seed 1 + 1) ++ wordsOf (firsts (M * M - 1) (λ k. draw seed (2 + k))))
+    unfolding fileOf practiceFile
+    bytes-dealt =
+        ap₂ (λ (n : ℕ) (l : List ℕ). headed (headerOf f) n ++ wordsOf l) length-dealt numbers-dealt
+        ∙ ap (λ (l : List ℕ). headed (headerOf f) (M * M) ++ l) (words-first (draw seed 1 + 1) (firsts (M * M - 1) (λ k. draw seed (2 + k))))
 
-  -- what is put one after the other
-  pub text-dealt : (h : Header) (count reward second : ℕ) → h .version ≡ 1 → h .states ≡ M → h .highest ≡ R → h .tolerance ≡ 10000 → h .time ≡ 1 + draw seed 0 / 4096 →
-      count ≡ M * M → reward ≡ draw seed 1 + 1 → second ≡ stream seed 2 →
-      headed h count ++ bytesOf 4 reward ++ wordsOf (firsts (count - 1) (draw second)) ≡ practiceFile M R seed
-  text-dealt h count reward second v m r e t n first from =
-      ap₂ (λ (x : Header) (k : ℕ). headed x k ++ bytesOf 4 reward ++ wordsOf (firsts (k - 1) (draw second))) header n
-      ∙ ap₂ (λ (x y : ℕ). headed (headerOf f) (M * M) ++ bytesOf 4 x ++ wordsOf (firsts (M * M - 1) (draw y))) first from
-      ∙ append-assoc (headed (headerOf f) (M * M)) (bytesOf 4 (draw seed 1 + 1)) (wordsOf (firsts (M * M - 1) (draw (stream seed 2))))
-      ∙ ap (λ (l : List ℕ). headed (headerOf f) (M * M) ++ (bytesOf 4 (draw seed 1 + 1) ++ wordsOf l)) (firsts-same (M * M - 1) (draw (stream seed 2)) (λ k. draw seed (2 + k)) (λ k l. draw-later seed 2 k))
-      ∙ sym bytes-dealt
-    where
-      header : h ≡ headerOf f
-      header = unfold practiceFields in λ i. record { version = v i; states = m i; highest = r i; tolerance = e i; time = t i }
+    -- what is put one after the other
+    pub text-dealt : (h : Header) (count reward second : ℕ) → h .version ≡ 1 → h .states ≡ M → h .highest ≡ R → h .tolerance ≡ 10000 → h .time ≡ 1 + draw seed 0 / 4096 →
+        count ≡ M * M → reward ≡ draw seed 1 + 1 → second ≡ stream seed 2 →
+        headed h count ++ bytesOf 4 reward ++ wordsOf (firsts (count - 1) (draw second)) ≡ practiceFile M R seed
+    text-dealt h count reward second v m r e t n first from =
+        ap₂ (λ (x : Header) (k : ℕ). headed x k ++ bytesOf 4 reward ++ wordsOf (firsts (k - 1) (draw second))) header n
+        ∙ ap₂ (λ (x y : ℕ). headed (headerOf f) (M * M) ++ bytesOf 4 x ++ wordsOf (firsts (M * M - 1) (draw y))) first from
+        ∙ append-assoc (headed (headerOf f) (M * M)) (bytesOf 4 (draw seed 1 + 1)) (wordsOf (firsts (M * M - 1) (draw (stream seed 2))))
+        ∙ ap (λ (l : List ℕ). headed (headerOf f) (M * M) ++ (bytesOf 4 (draw seed 1 + 1) ++ wordsOf l)) (firsts-same (M * M - 1) (draw (stream seed 2)) (λ k. draw seed (2 + k)) (λ k l. draw-later seed 2 k))
+        ∙ sym bytes-dealt
+      where
+        header : h ≡ headerOf f
+        header = unfold practiceFields in λ i. record { version = v i; states = m i; highest = r i; tolerance = e i; time = t i }
 
-  length-of-dealt : length (practiceFile M R seed) ≡ 4 * (M * M) + 13
-  unfolding practiceFile
-  length-of-dealt = omega (arith, length-file f, length-dealt)
+    length-of-dealt : length (practiceFile M R seed) ≡ 4 * (M * M) + 13
+    unfolding practiceFile
+    length-of-dealt = omega (arith, length-file f, length-dealt)
 
--- where M and R pass rows 4 and 5
-module _ (M R seed : ℕ) (row : NoneHold (dimensions M R)) where
-  abbrev g : Fields
-  g = practiceFields M R seed
+  -- where M and R pass rows 4 and 5
+  module _ (row : NoneHold (dimensions M R)) where
+    abbrev t : List ℕ
+    t = practiceFile M R seed
 
-  abbrev t : List ℕ
-  t = practiceFile M R seed
+    states-range : (1 ≤ M) × (M ≤ 64)
+    states-range = dimensions-by M R row .0
 
-  states-range : (1 ≤ M) × (M ≤ 64)
-  states-range = dimensions-by M R row .0
+    highest-range : (1 ≤ R) × (R ≤ 8)
+    highest-range = dimensions-by M R row .1
 
-  highest-range : (1 ≤ R) × (R ≤ 8)
-  highest-range = dimensions-by M R row .1
+    -- a reward is at most 65,536, a rate at most 65,535, and the time at most 16
+    reward-below : (i : ℕ) → getD (f .rewards) i 0 < 65537
+    unfolding practiceFields
+    reward-below zero = omega (arith, draw-max seed 1)
+    reward-below (suc i) = firsts-below 65537 (M - 1) (λ k. draw seed (2 + k)) (λ k. omega (arith, draw-max seed (2 + k))) i
 
-  -- a reward is at most 65,536, a rate at most 65,535, and the time at most 16
-  reward-below : (i : ℕ) → getD (g .rewards) i 0 < 65537
-  unfolding practiceFields
-  reward-below zero = omega (arith, draw-max seed 1)
-  reward-below (suc i) = firsts-below 65537 (M - 1) (λ k. draw seed (2 + k)) (λ k. omega (arith, draw-max seed (2 + k))) i
+    rate-below : (i : ℕ) → getD (f .rates) i 0 < 65536
+    unfolding practiceFields
+    rate-below i = firsts-below 65536 (M * (M - 1)) (λ k. draw seed (1 + M + k)) (λ k. omega (arith, draw-max seed (1 + M + k))) i
 
-  rate-below : (i : ℕ) → getD (g .rates) i 0 < 65536
-  unfolding practiceFields
-  rate-below i = firsts-below 65536 (M * (M - 1)) (λ k. draw seed (1 + M + k)) (λ k. omega (arith, draw-max seed (1 + M + k))) i
+    time-range : (1 ≤ f .time) × (f .time ≤ 16)
+    unfolding practiceFields
+    time-range = (omega arith, omega (arith, quotient-below (draw seed 0) 16 4096 (omega (arith, draw-max seed 0))))
 
-  time-range : (1 ≤ g .time) × (g .time ≤ 16)
-  unfolding practiceFields
-  time-range = (omega arith, omega (arith, quotient-below (draw seed 0) 16 4096 (omega (arith, draw-max seed 0))))
+    -- a file can hold the fields
+    fits : Fits f
+    fits =
+        record {
+          version-fits = unfold practiceFields in omega arith;
+          states-min = unfold practiceFields in states-range .0;
+          states-fit = unfold practiceFields in omega (arith, states-range);
+          highest-fits = unfold practiceFields in omega (arith, highest-range);
+          tolerance-fits = unfold practiceFields in omega arith;
+          time-fits = omega (arith, time-range);
+          weights-count = unfold practiceFields in omega arith;
+          rewards-count = unfold practiceFields in omega (arith, length-firsts (M - 1) (λ i. draw seed (2 + i)), states-range);
+          rates-count = unfold practiceFields in length-firsts (M * (M - 1)) (λ k. draw seed (1 + M + k));
+          weights-fit = λ i. unfold practiceFields in omega arith;
+          rewards-fit = λ i. omega (arith, reward-below i);
+          rates-fit = λ i. omega (arith, rate-below i);
+          length-fits = omega (arith, length-dealt (states-range .0), mul-le-mul (states-range .1) (states-range .1));
+        }
 
-  -- a file can hold the fields
-  fits : Fits g
-  fits =
-      record {
-        version-fits = unfold practiceFields in omega arith;
-        states-min = unfold practiceFields in states-range .0;
-        states-fit = unfold practiceFields in omega (arith, states-range);
-        highest-fits = unfold practiceFields in omega (arith, highest-range);
-        tolerance-fits = unfold practiceFields in omega arith;
-        time-fits = omega (arith, time-range);
-        weights-count = unfold practiceFields in omega arith;
-        rewards-count = unfold practiceFields in omega (arith, length-firsts (M - 1) (λ i. draw seed (2 + i)), states-range);
-        rates-count = unfold practiceFields in length-firsts (M * (M - 1)) (λ k. draw seed (1 + M + k));
-        weights-fit = λ i. unfold practiceFields in omega arith;
-        rewards-fit = λ i. omega (arith, reward-below i);
-        rates-fit = λ i. omega (arith, rate-below i);
-        length-fits = omega (arith, length-dealt M R seed (states-range .0), mul-le-mul (states-range .1) (states-range .1));
-      }
+    fields-dealt : fieldsOf t ≡ f
+    unfolding practiceFile
+    fields-dealt = fields-of-file f fits
 
-  fields-dealt : fieldsOf t ≡ g
-  unfolding practiceFile
-  fields-dealt = fields-of-file g fits
+    states-are : stateCount t ≡ M
+    unfolding practiceFields practiceFile
+    states-are = states-of-file f
 
-  states-are : stateCount t ≡ M
-  unfolding practiceFields practiceFile
-  states-are = states-of-file g
+    is-state : (i : ℕ) → i < stateCount t → i < f .states
+    unfolding practiceFile
+    is-state i l = omega (arith, states-of-file f)
 
-  is-state : (i : ℕ) → i < stateCount t → i < g .states
-  unfolding practiceFile
-  is-state i l = omega (arith, states-of-file g)
+    -- no starting distribution
+    no-distribution : distributions t ≡ 0
+    unfolding practiceFields practiceFile
+    no-distribution = other-version t (λ e. let z : _≡_ {A = ℕ} 1 2 = sym (version-of-file f) ∙ e in omega arith)
 
-  -- no starting distribution
-  no-distribution : distributions t ≡ 0
-  unfolding practiceFields practiceFile
-  no-distribution = other-version t (λ e. let z : _≡_ {A = ℕ} 1 2 = sym (version-of-file g) ∙ e in omega arith)
+    reward-max : maxReward (modelOf t) ≤ 65536
+    unfolding maxReward practiceFile
+    reward-max = largest-le (stateCount t) 65536 (rewardField t) (λ i l. omega (arith, reward-held f fits i (is-state i l), reward-below i))
 
-  reward-max : maxReward (modelOf t) ≤ 65536
-  unfolding maxReward practiceFile
-  reward-max = largest-le (stateCount t) 65536 (rewardField t) (λ i l. omega (arith, reward-held g fits i (is-state i l), reward-below i))
+    -- the first reward is at least 1
+    reward-pos : 0 < maxReward (modelOf t)
+    unfolding maxReward practiceFields practiceFile
+    reward-pos = omega (arith, le-largest (stateCount t) (rewardField t) 0 (omega (arith, states-are, states-range)), reward-held f fits 0 (states-range .0))
 
-  -- the first reward is at least 1
-  reward-pos : 0 < maxReward (modelOf t)
-  unfolding maxReward practiceFields practiceFile
-  reward-pos = omega (arith, le-largest (stateCount t) (rewardField t) 0 (omega (arith, states-are, states-range)), reward-held g fits 0 (states-range .0))
+    jump-max : (i j : ℕ) → i < stateCount t → j < stateCount t → jumpRate (modelOf t) i j ≤ 65535
+    unfolding jumpRate practiceFile
+    jump-max i j li lj =
+        elim (ℕ-discrete j i) [
+          | yes e ↦ rw (eq-eqb j i e) (omega arith)
+          | no ne ↦ rw (ne-eqb j i ne) (omega (arith, rate-held f fits i j (is-state i li) (is-state j lj) ne, rate-below (i * (f .states - 1) + place i j)))
+        ]
 
-  jump-max : (i j : ℕ) → i < stateCount t → j < stateCount t → jumpRate (modelOf t) i j ≤ 65535
-  unfolding jumpRate practiceFile
-  jump-max i j li lj =
-      elim (ℕ-discrete j i) [
-        | yes e ↦ rw (eq-eqb j i e) (omega arith)
-        | no ne ↦ rw (ne-eqb j i ne) (omega (arith, rate-held g fits i j (is-state i li) (is-state j lj) ne, rate-below (i * (g .states - 1) + place i j)))
-      ]
+    -- so each row sum is at most 64 × 65,535
+    sum-max : (i : ℕ) → i < stateCount t → rowSum (modelOf t) i ≤ 4194240
+    unfolding rowSum
+    sum-max i l = omega (arith, sum-mono (stateCount t) (jumpRate (modelOf t) i) (λ j. 65535) (λ j lj. jump-max i j l lj), sum-constant (stateCount t) 65535, states-are, states-range)
 
-  -- so each row sum is at most 64 × 65,535
-  sum-max : (i : ℕ) → i < stateCount t → rowSum (modelOf t) i ≤ 4194240
-  unfolding rowSum
-  sum-max i l = omega (arith, sum-mono (stateCount t) (jumpRate (modelOf t) i) (λ j. 65535) (λ j lj. jump-max i j l lj), sum-constant (stateCount t) 65535, states-are, states-range)
+    rate-max : uniformRate (modelOf t) ≤ 4194240
+    unfolding uniformRate
+    rate-max = omega (arith, largest-le (stateCount t) 4194240 (rowSum (modelOf t)) sum-max)
 
-  rate-max : uniformRate (modelOf t) ≤ 4194240
-  unfolding uniformRate
-  rate-max = omega (arith, largest-le (stateCount t) 4194240 (rowSum (modelOf t)) sum-max)
+    time-dealt : (1 ≤ timeField t) × (timeField t ≤ 16)
+    unfolding practiceFile
+    time-dealt = rw (time-held f fits) time-range
 
-  time-dealt : (1 ≤ timeField t) × (timeField t ≤ 16)
-  unfolding practiceFile
-  time-dealt = rw (time-held g fits) time-range
+    tolerance-passes : outside 1 100000000 (toleranceField t) ≡ false
+    unfolding practiceFields practiceFile
+    tolerance-passes = rw (tolerance-held f fits) refl
 
-  tolerance-passes : outside 1 100000000 (toleranceField t) ≡ false
-  unfolding practiceFields practiceFile
-  tolerance-passes = rw (tolerance-held g fits) refl
+    -- rows 7, 8, 16 and 9 to 11
+    quantities-pass : NoneHold (quantities (modelOf t) [])
+    unfolding quantities
+    quantities-pass = (tolerance-passes, (time, (no-start (modelOf t) no-distribution, (rewards-within t (omega (arith, reward-max)), (some-reward t reward-pos, (sums-within t (omega (arith, rate-max)), tt))))))
+      where
+        time : (eqb (timeField t) 0 || false) ≡ false
+        time = rw (ne-eqb (timeField t) 0 (λ e. omega (arith, time-dealt, e))) refl
 
-  -- rows 7, 8, 16 and 9 to 11
-  quantities-pass : NoneHold (quantities (modelOf t) [])
-  unfolding quantities
-  quantities-pass = (tolerance-passes, (time, (no-start (modelOf t) no-distribution, (rewards-within t (omega (arith, reward-max)), (some-reward t reward-pos, (sums-within t (omega (arith, rate-max)), tt))))))
-    where
-      time : (eqb (timeField t) 0 || false) ≡ false
-      time = rw (ne-eqb (timeField t) 0 (λ e. omega (arith, time-dealt, e))) refl
+    -- row 12
+    jumps-pass : NoneHold (jumps (uniformRate (modelOf t)) (timeField t))
+    unfolding jumps
+    jumps-pass = (le-ltb 256000000 (uniformRate (modelOf t) * timeField t) (omega (arith, mul-le-mul rate-max (time-dealt .1))), tt)
 
-  -- row 12
-  jumps-pass : NoneHold (jumps (uniformRate (modelOf t)) (timeField t))
-  unfolding jumps
-  jumps-pass = (le-ltb 256000000 (uniformRate (modelOf t) * timeField t) (omega (arith, mul-le-mul rate-max (time-dealt .1))), tt)
+    -- rows 1 to 6
+    frame-passes : (newest : ℕ) → 1 ≤ newest → NoneHold (framing 1 newest t)
+    unfolding practiceFields practiceFile
+    frame-passes newest new = framing-passes f fits 1 newest (le-refl 1) new row
 
-  -- rows 1 to 6
-  frame-passes : (newest : ℕ) → 1 ≤ newest → NoneHold (framing 1 newest t)
-  unfolding practiceFields practiceFile
-  frame-passes newest new = framing-passes g fits 1 newest (le-refl 1) new row
+    -- rows 1 to 12 and 16 pass at its own time, for a call that admits version 1
+    dealt-accepted : (newest : ℕ) → 1 ≤ newest → fileJudgement 1 newest t ≡ accepted tt
+    unfolding fileJudgement
+    dealt-accepted newest new =
+        all-pass (fileRows 1 newest t) (tt {0})
+        (none-together (framing 1 newest t ++ quantities (modelOf t) []) (jumps (uniformRate (modelOf t)) (timeField t))
+        (none-together (framing 1 newest t) (quantities (modelOf t) []) (frame-passes newest new) quantities-pass)
+        jumps-pass)
 
-  -- rows 1 to 12 and 16 pass, for a call that admits version 1
-  dealt-accepted : (newest : ℕ) → 1 ≤ newest → fileJudgement 1 newest t ≡ accepted tt
-  unfolding fileJudgement
-  dealt-accepted newest new =
-      all-pass (fileRows 1 newest t) (tt {0})
-      (none-together (framing 1 newest t ++ quantities (modelOf t) []) (jumps (uniformRate (modelOf t)) (timeField t))
-      (none-together (framing 1 newest t) (quantities (modelOf t) []) (frame-passes newest new) quantities-pass)
-      jumps-pass)
+    highest-is : highestMoment t ≡ R
+    unfolding practiceFields practiceFile
+    highest-is = highest-of-file f
 
-  highest-is : highestMoment t ≡ R
-  unfolding practiceFields practiceFile
-  highest-is = highest-of-file g
-
-  -- with M × R cells it has a level
-  dealt-figures : (cells : ℕ) → M * R ≤ cells → outcome t cells ≡ accepted (modelLevel (modelOf t))
-  dealt-figures cells enough-cells =
-      outcome-accepted t cells (judgement-in-parts t cells ∙ rw (dealt-accepted 2 (omega arith)) (enough (blockSize t) cells block))
-    where
-      block : blockSize t ≤ cells
-      block = omega (arith, ap₂ (λ (a b : ℕ). (a + distributions t) * b) states-are highest-is, ap (λ (d : ℕ). (M + d) * R) no-distribution)
+    -- with M × R cells it has a level
+    dealt-figures : (cells : ℕ) → M * R ≤ cells → outcome t cells ≡ accepted (modelLevel (modelOf t))
+    dealt-figures cells enough-cells =
+        outcome-accepted t cells (judgement-in-parts t cells ∙ rw (dealt-accepted 2 (omega arith)) (enough (blockSize t) cells block))
+      where
+        block : blockSize t ≤ cells
+        block = omega (arith, ap₂ (λ (a b : ℕ). (a + distributions t) * b) states-are highest-is, ap (λ (d : ℕ). (M + d) * R) no-distribution)
 
 -- the call: refused by rows 4 and 5, by row 13, or the file
 module _ (M R seed lent : ℕ) where

@@ -88,7 +88,7 @@ falls-at t k (suc n) low high fallen =
           ap (λ (b : Bool). fallsUpTo n t || b) (le-leb (getD t (suc n) 0) (getD t n 0) (rw (here, same) at fallen)) ∙ or-true (fallsUpTo n t)
     ]
 
--- rows 9, 10 and 11, the tests over all states, from the largest entry
+-- rows 9, 10, 11 and 17, the tests over states, from the largest entry
 above : (k n : ℕ) (f : ℕ → ℕ) → k < largest n f → anyAbove k n f ≡ true
 above k n f h = any-largest k n f ∙ lt-ltb k (largest n f) h
 
@@ -125,11 +125,11 @@ module _ (s : List ℕ) where
 pub weight-found : (n : ℕ) (a : ℕ → ℕ) (i : ℕ) → 1 ≤ i → i < n → 0 < a i → anyAbove 0 (n - 1) (λ k. a (k + 1)) ≡ true
 weight-found n a i low high some =
     let place : i - 1 + 1 ≡ i = omega arith in
-    any-largest 0 (n - 1) (λ k. a (k + 1)) ∙ lt-ltb 0 (largest (n - 1) (λ k. a (k + 1))) (omega (arith, some, ap a place, le-largest (n - 1) (λ k. a (k + 1)) (i - 1) (omega arith)))
+    above 0 (n - 1) (λ k. a (k + 1)) (omega (arith, some, ap a place, le-largest (n - 1) (λ k. a (k + 1)) (i - 1) (omega arith)))
 
 -- and passes where all but the first are 0
 pub none-found : (n : ℕ) (a : ℕ → ℕ) → ((i : ℕ) → 1 ≤ i → i < n → a i ≡ 0) → anyAbove 0 (n - 1) (λ k. a (k + 1)) ≡ false
-none-found n a zeros = any-largest 0 (n - 1) (λ k. a (k + 1)) ∙ le-ltb 0 (largest (n - 1) (λ k. a (k + 1))) (largest-le (n - 1) 0 (λ k. a (k + 1)) (λ k h. omega (arith, zeros (k + 1) (omega arith) (omega arith))))
+none-found n a zeros = not-above 0 (n - 1) (λ k. a (k + 1)) (largest-le (n - 1) 0 (λ k. a (k + 1)) (λ k h. omega (arith, zeros (k + 1) (omega arith) (omega arith))))
 
 -- row 12: with equal numbers it answers the same
 pub same-jumps : {E' T' : ℕ} (E T : ℕ) → E' ≡ E → T' ≡ T → judgedBy (jumps E' T') ≡ judgedBy (jumps E T)

@@ -87,8 +87,8 @@ fn put_file(out: &mut [u8], states: u8, highest: u8, seed: u32) -> usize
 }
 
 // Deals the practice file of M = states, R = highest and a seed number: the count of its bytes, or the number of
-// the first row that holds. Rows 1 to 12 and 16 stop no file dealt where version 1 is admitted, and with M × R cells
-// it has figures.
+// the first row that holds. Where version 1 is admitted, rows 1 to 12 and 16 stop no file dealt at its own time, and
+// with M × R cells it has figures.
 pub fn practice(states: u64, highest: u64, seed: u32, out: &mut [u8]) -> Written
     ensures answer { λ o. ⌜ writtenAnswer o ≡ countOf (practice states highest seed (length (now (out .entry)))) ⌝ }
     ensures bytes { λ o. ⌜ now (out .exit) ≡ bytesAfter (practice states highest seed (length (now (out .entry)))) (now (out .entry)) ⌝ }

@@ -1,7 +1,7 @@
 // Bytes in a lent slice.
 //
-// Each function stores its text from a place on, `at` or for a header the start, and returns the place after it.
-// Its contract names the text and says that no other byte changes.
+// Each function stores its text from `at` on (a header: from the start) and returns the place after it. Its contract
+// names the text and says that no other byte changes.
 ghost use mathlib.Core.Path.{_≡_};
 ghost use mathlib.Core.List.{[], _∷_};
 ghost use Prim.Native.Nat.{_+_, _*_, _/_, _%_, _^_, _<_, _≤_};

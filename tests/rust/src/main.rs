@@ -750,11 +750,11 @@ fn moves_large<const TO: u8>(tally: &mut Tally, chance: &mut Chance) {
     }
 }
 
-/// M and R at their borders and past them; every number of bytes lent for the file.
+/// M and R at their borders and past them, also with more bytes lent than 16 bits count; every number of bytes lent for the file.
 fn practice_sweeps(tally: &mut Tally, chance: &mut Chance) {
     for states in models::borders(64) {
         for highest in models::borders(8) {
-            for out in [0, 16, 17, 16_396, 16_397, 16_653] {
+            for out in [0, 16, 17, 16_396, 16_397, 16_653, 65_536, 65_537] {
                 let input = PracticeInput { states, highest, seed: chance.next() as u32, out };
                 tally.compare("borders", &input);
             }
