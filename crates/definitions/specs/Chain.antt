@@ -1,10 +1,10 @@
 -- "Chain": the model that a file states, and its uniformized chain. What follows the bytes speaks of a Model and not of bytes.
-use Prim.Native.Nat.{ℕ, _+_, _*_, _-_, _/_, _%_, max}
+use Prim.Native.Nat.{ℕ, _+_, _*_, _-_, max}
 use mathlib.Core.List.{List}
 use lib.ListN.{getD}
 use lib.Dec.{eqb, ltb}
 use Rattle.definitions.specs.declared.Sizes.{Sizes}
-use Rattle.definitions.specs.Sums.{sum, largest, firsts, over, pick}
+use Rattle.definitions.specs.Sums.{sum, largest, firsts, pick}
 use Rattle.definitions.specs.File.{stateCount, highestMoment, toleranceField, timeField, distributions, weightField, rewardField, rateField}
 
 -- M, R, ε in billionths, T in hours, how many starting distributions there are (one or none), the starting weights in millionths, f, and the
@@ -87,20 +87,31 @@ chainOf m = record { states = m .states; rate = uniformRate m; entry = c m; rewa
 unfoldable pub padded : ℕ → (ℕ → ℕ) → List ℕ
 padded M v = firsts 64 (λ i. pick (ltb i M) (v i) 0)
 
--- c as one list, row after row without gaps: its entry k, where c(i,j) is entry i × M + j; and the list, with what stands past c as in l
-unfoldable pub flatEntry : Chain → ℕ → ℕ
-flatEntry ch k = ch .entry (k / ch .states) (k % ch .states)
+-- the rows of a chain as they are lent to the steps, M places for each row, one row after another: the state and the entry of c in each place, and how
+-- many places of each row are used
+pub record Listing : Type 0 where
+  pub targets : List ℕ
+  pub rates : List ℕ
+  pub counts : List ℕ
 
-unfoldable pub flat : Chain → List ℕ → List ℕ
-flat ch l = over (ch .states * ch .states) (flatEntry ch) l
+abbrev pub listed : List ℕ → List ℕ → List ℕ → Listing
+listed targets rates counts = record { targets = targets; rates = rates; counts = counts }
 
--- the chain that stands in arrays, with M, E and F among its sizes: c row after row, and f for 64 states
-abbrev pub arrays : Sizes → List ℕ → List ℕ → Chain
-arrays sizes c f =
+-- place k of row i
+abbrev pub targetAt : ℕ → Listing → ℕ → ℕ → ℕ
+targetAt M a i k = getD (a .targets) (i * M + k) 0
+
+abbrev pub rateAt : ℕ → Listing → ℕ → ℕ → ℕ
+rateAt M a i k = getD (a .rates) (i * M + k) 0
+
+-- the chain that stands in arrays, with M, E and F among its sizes: c(i,j) is what the places of row i have for j, 0 where none is for j; and f for 64
+-- states
+abbrev pub arrays : Sizes → Listing → List ℕ → Chain
+arrays sizes a f =
     record {
       states = sizes .states;
       rate = sizes .rate;
-      entry = λ i j. getD c (i * sizes .states + j) 0;
+      entry = λ i j. sum (getD (a .counts) i 0) (λ k. pick (eqb (targetAt (sizes .states) a i k) j) (rateAt (sizes .states) a i k) 0);
       reward = λ i. getD f i 0;
       largestReward = sizes .largest;
     }

@@ -16,6 +16,7 @@ pub mod Moment
 pub mod Fraction
 pub mod Average
 pub mod Promise
+pub mod Arrows
 pub mod Series
 pub mod Remainders
 pub mod Written

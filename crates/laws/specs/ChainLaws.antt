@@ -1,19 +1,18 @@
--- The starting distributions that a file holds; the uniformized chain: each row of c sums to E, f ≤ F; and the arrays that hold a chain.
-use Prim.Native.Nat.{ℕ, zero, suc, _+_, _*_, _-_, _≤_, _<_}
+-- The starting distributions that a file holds; the uniformized chain: each row of c sums to E, f ≤ F; and chains that agree at their states.
+use Prim.Native.Nat.{ℕ, _+_, _*_, _-_, _≤_, _<_}
 use native.Mathlib.Nat.{mul-le-mul}
 use native.Mathlib.Omega.{arith}
 use native.Mathlib.Decide.{ℕ-discrete}
-use mathlib.Core.Path.{_≡_, refl, _∙_, ap₂}
+use mathlib.Core.Path.{_≡_, refl, _∙_}
 use mathlib.Core.List.{List}
 use lib.ListN.{getD}
-use lib.Dec.{eqb, ltb}
+use lib.Dec.{ltb}
 use borrow.Author.Tests.{eq-eqb, ne-eqb, lt-ltb}
 use Rattle.definitions.specs.Sums.{sum, pick}
 use Rattle.definitions.specs.File.{version, distributions}
-use Rattle.definitions.specs.Chain.{Model, atTime, jumpRate, rowSum, uniformRate, c, maxReward, Chain, chainOf, padded, flatEntry, flat, arrays, sizesOf}
-use Rattle.laws.specs.SumLaws.{sum-same, le-largest}
-use Rattle.laws.specs.Rounding.{row-of-place, place-in-row, place-below}
-use Rattle.laws.specs.ListLaws.{getD-firsts, getD-over}
+use Rattle.definitions.specs.Chain.{Model, atTime, jumpRate, rowSum, uniformRate, c, maxReward, Chain, chainOf, padded, sizesOf}
+use Rattle.laws.specs.SumLaws.{sum-diagonal, le-largest}
+use Rattle.laws.specs.ListLaws.{getD-firsts}
 
 -- one starting distribution in version 2, none in any other
 pub version-2 : (s : List ℕ) → version s ≡ 2 → distributions s ≡ 1
@@ -39,18 +38,6 @@ chain-at m T = refl
 pub sizes-at : (m : Model) (T : ℕ) → sizesOf (atTime m T) ≡ sizesOf m
 unfolding jumpRate rowSum uniformRate maxReward
 sizes-at m T = refl
-
--- what changes at the diagonal alone changes the sum by that much
-pub sum-diagonal : (n i d : ℕ) (g : ℕ → ℕ) → i < n → sum n (λ j. pick (eqb j i) d (g j)) ≡ sum n (λ j. pick (eqb j i) 0 (g j)) + d
-unfolding sum
-sum-diagonal zero i d g l = absurd (omega arith)
-sum-diagonal (suc n) i d g l =
-    elim (ℕ-discrete n i) [
-      | yes e ↦
-          rw (eq-eqb n i e)
-          (omega (arith, sum-same n (λ j. pick (eqb j i) d (g j)) (λ j. pick (eqb j i) 0 (g j)) (λ j b. rw (ne-eqb j i (omega arith)))))
-      | no ne ↦ rw (ne-eqb n i ne) (omega (arith, sum-diagonal n i d g (omega arith)))
-    ]
 
 pub rowSum-le-rate : (m : Model) (i : ℕ) → i < m .states → rowSum m i ≤ uniformRate m
 unfolding uniformRate
@@ -82,15 +69,6 @@ getD-padded M v i h l = getD-firsts 0 64 (λ j. pick (ltb j M) (v j) 0) i (omega
 pub square-max : (M k : ℕ) → M ≤ k → M * M ≤ k * k
 square-max M k h = mul-le-mul h h
 
--- c(i,j) stands at i × M + j
-pub flat-entry : (ch : Chain) (i j : ℕ) → j < ch .states → flatEntry ch (i * ch .states + j) ≡ ch .entry i j
-unfolding flatEntry
-flat-entry ch i j l = ap₂ (ch .entry) (row-of-place i j (ch .states) l) (place-in-row i j (ch .states) l)
-
-pub getD-flat : (ch : Chain) (l : List ℕ) (i j : ℕ) → i < ch .states → j < ch .states → getD (flat ch l) (i * ch .states + j) 0 ≡ ch .entry i j
-unfolding flat
-getD-flat ch l i j li lj = getD-over 0 (ch .states * ch .states) (flatEntry ch) l (i * ch .states + j) (place-below i j (ch .states) (ch .states) li lj) ∙ flat-entry ch i j lj
-
 -- two chains that agree at every pair of states
 pub record SameChain (a b : Chain) : Type 0 where
   pub states : a .states ≡ b .states
@@ -101,14 +79,3 @@ pub record SameChain (a b : Chain) : Type 0 where
 
 pub itself : (ch : Chain) → SameChain ch ch
 itself ch = record { states = refl; rate = refl; largestReward = refl; entry = λ i j li lj. refl; reward = λ i l. refl }
-
--- the arrays of a model's chain hold that chain, whatever stands past it
-pub arrays-same : (m : Model) (l : List ℕ) → m .states ≤ 64 → SameChain (arrays (sizesOf m) (flat (chainOf m) l) (padded (m .states) (m .reward))) (chainOf m)
-arrays-same m l h =
-    record {
-      states = refl;
-      rate = refl;
-      largestReward = refl;
-      entry = λ i j li lj. getD-flat (chainOf m) l i j li lj;
-      reward = λ i b. getD-padded (m .states) (m .reward) i h b;
-    }

@@ -13,6 +13,7 @@ pub mod RuleLaws
 pub mod RowLaws
 pub mod FileLaws
 pub mod VectorLaws
+pub mod ArrowLaws
 pub mod Acceptance
 pub mod WeightLaws
 pub mod LevelLaws

@@ -70,9 +70,9 @@ unfolding weighted weightSum
 weighted-max X N u h = sum-mono (suc N) (λ n. term (weight X n) (u n)) (weight X) (λ n l. term-max (weight X n) (u n) (h n (omega arith)))
 
 -- equal values up to N have equal weighted means
-pub weighted-same : (X N : ℕ) (u v : ℕ → ℕ) → ((n : ℕ) → n ≤ N → u n ≡ v n) → weightedMean X u N ≡ weightedMean X v N
+pub weighted-mean-same : (X N : ℕ) (u v : ℕ → ℕ) → ((n : ℕ) → n ≤ N → u n ≡ v n) → weightedMean X u N ≡ weightedMean X v N
 unfolding weightedMean weighted
-weighted-same X N u v h =
+weighted-mean-same X N u v h =
     ap (λ (a : ℕ). lastQuotient a (weightSum X N))
     (sum-same (suc N) (λ n. term (weight X n) (u n)) (λ n. term (weight X n) (v n)) (λ n l. ap (term (weight X n)) (h n (omega arith))))
 

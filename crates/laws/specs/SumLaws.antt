@@ -4,9 +4,9 @@ use native.Mathlib.Omega.{arith}
 use native.Mathlib.Decide.{ℕ-discrete}
 use mathlib.Core.Path.{_≡_, refl, sym, _∙_, ap, ap₂}
 use mathlib.Core.Bool.{Bool, true, false, _||_}
-use lib.Dec.{ltb}
-use borrow.Author.Tests.{lt-ltb, le-ltb, ltb-true, ltb-false}
-use Rattle.definitions.specs.Sums.{sum, largest, anyAbove}
+use lib.Dec.{eqb, ltb}
+use borrow.Author.Tests.{eq-eqb, ne-eqb, lt-ltb, le-ltb, ltb-true, ltb-false}
+use Rattle.definitions.specs.Sums.{sum, largest, anyAbove, pick}
 
 pub sum-zero : (f : ℕ → ℕ) → sum 0 f ≡ 0
 unfolding sum
@@ -112,7 +112,7 @@ sum-part n k f h = omega (arith, sum-longer n (k - n) f, ap (λ (m : ℕ). sum m
     whole = omega arith
 
 -- a sum of zeros; and where one entry alone is not 0, the sum is that entry
-sum-none : (n : ℕ) (f : ℕ → ℕ) → ((j : ℕ) → j < n → f j ≡ 0) → sum n f ≡ 0
+pub sum-none : (n : ℕ) (f : ℕ → ℕ) → ((j : ℕ) → j < n → f j ≡ 0) → sum n f ≡ 0
 unfolding sum
 sum-none zero f none = refl
 sum-none (suc n) f none = omega (arith, sum-none n f (λ j b. none j (omega arith)), none n (omega arith))
@@ -125,3 +125,28 @@ sum-single (suc n) i f h others =
       | yes e ↦ rw e (omega (arith, sum-none n f (λ j b. others j (omega arith) (λ same. omega (arith, same, e, b)))))
       | no ne ↦ omega (arith, sum-single n i f (omega arith) (λ j b other. others j (omega arith) other), others n (omega arith) (λ same. ne (sym same)))
     ]
+
+-- what changes at one place alone changes the sum by that much
+pub sum-diagonal : (n i d : ℕ) (g : ℕ → ℕ) → i < n → sum n (λ j. pick (eqb j i) d (g j)) ≡ sum n (λ j. pick (eqb j i) 0 (g j)) + d
+unfolding sum
+sum-diagonal zero i d g l = absurd (omega arith)
+sum-diagonal (suc n) i d g l =
+    elim (ℕ-discrete n i) [
+      | yes e ↦
+          rw (eq-eqb n i e)
+          (omega (arith, sum-same n (λ j. pick (eqb j i) d (g j)) (λ j. pick (eqb j i) 0 (g j)) (λ j b. rw (ne-eqb j i (omega arith)))))
+      | no ne ↦ rw (ne-eqb n i ne) (omega (arith, sum-diagonal n i d g (omega arith)))
+    ]
+
+-- one term apart
+pub sum-apart : (n i : ℕ) (f : ℕ → ℕ) → i < n → sum n f ≡ f i + sum n (λ j. pick (eqb j i) 0 (f j))
+sum-apart n i f l =
+    sum-same n f (λ j. pick (eqb j i) (f i) (f j)) (λ j b. elim (ℕ-discrete j i) [ yes e ↦ rw (eq-eqb j i e) (ap f e) | no ne ↦ rw (ne-eqb j i ne) refl ])
+    ∙ sum-diagonal n i (f i) f l
+    ∙ omega arith
+
+-- the first term apart
+pub sum-first : (n : ℕ) (f : ℕ → ℕ) → sum (suc n) f ≡ f 0 + sum n (λ k. f (suc k))
+unfolding sum
+sum-first zero f = omega arith
+sum-first (suc n) f = omega (arith, sum-first n f)

@@ -5,7 +5,7 @@ use lib.Dec.{leb, ltb}
 use lib.ListN.{length, getD, drop}
 use Rattle.definitions.specs.declared.Sizes.{Sizes}
 use Rattle.definitions.specs.Sums.{sum, blocks, pick}
-use Rattle.definitions.specs.Chain.{Chain}
+use Rattle.definitions.specs.Chain.{Chain, Listing}
 use Rattle.definitions.specs.Vectors.{ONE, U}
 use Rattle.definitions.specs.Weights.{GREATEST}
 use Rattle.definitions.specs.Moment.{term}
@@ -83,8 +83,8 @@ pub record AllDivisible (cells totals : List ℕ) (size : ℕ) : Type 0 where
   pub below : (k c : ℕ) → k < length totals → c < size → getD cells (k * size + c) 0 ≤ getD totals k 0
 
 -- what the sums are made from: the arrays of a chain, and for each level a row of weights
-pub record Summable (z : Sizes) (c f levels w : List ℕ) : Type 0 where
-  pub ready : Ready z c f
+pub record Summable (z : Sizes) (a : Listing) (f levels w : List ℕ) : Type 0 where
+  pub ready : Ready z a f
   pub fitting : Fitting z
   pub highest-pos : 1 ≤ z .highest
   pub highest-max : z .highest ≤ 8

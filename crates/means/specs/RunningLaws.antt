@@ -6,12 +6,14 @@ use native.Mathlib.Nat.{le-trans}
 use native.Mathlib.Numerals.{add-one}
 use native.Mathlib.Decide.{decLe, decLt}
 use native.Mathlib.Omega.{arith}
+use mathlib.Core.Bool.{Bool, true, false}
+use lib.Dec.{leb}
 use lib.ListN.{length, getD, take, drop}
 use borrow.Author.Tests.{le-leb, lt-leb, lt-ltb, le-ltb}
 use Rattle.definitions.specs.declared.Sizes.{Sizes}
-use Rattle.definitions.specs.Sums.{over, blocks}
-use Rattle.definitions.specs.Chain.{Chain, arrays}
-use Rattle.definitions.specs.Vectors.{U}
+use Rattle.definitions.specs.Sums.{over, blocks, pick}
+use Rattle.definitions.specs.Chain.{Chain, Listing, arrays}
+use Rattle.definitions.specs.Vectors.{ONE, U}
 use Rattle.definitions.specs.Weights.{GREATEST}
 use Rattle.definitions.specs.Moment.{term}
 use Rattle.laws.specs.Rounding.{row-of-place}
@@ -35,6 +37,15 @@ terms-up-to l row count n level u h = over-same count _ _ l (λ e b. rw (le-leb 
 
 pub terms-past : (l row : List ℕ) (count n level : ℕ) (u : ℕ → ℕ) → level < n → count ≤ length l → l ≡ over count (λ e. getD l e 0 + termAt row n level (u e)) l
 terms-past l row count n level u h enough = sym (over-kept 0 count _ l enough (λ e b. rw (lt-leb n level h) (omega arith)))
+
+-- terms of a weight that is 0 add nothing
+pub terms-of-none : (l row : List ℕ) (count n level : ℕ) (u : ℕ → ℕ) → getD row n 0 ≡ 0 → count ≤ length l → l ≡ over count (λ e. getD l e 0 + termAt row n level (u e)) l
+unfolding term
+terms-of-none l row count n level u none enough = sym (over-kept 0 count _ l enough (λ e b. rw none (nothing (leb n level) e)))
+  where
+    nothing : (b : Bool) (e : ℕ) → getD l e 0 + pick b (0 * u e / ONE) 0 ≡ getD l e 0
+    nothing true e = let none : 0 * u e ≡ 0 = omega arith in rw none (omega arith)
+    nothing false e = omega arith
 
 -- in a cell of the states, and past them
 pub in-states : (count e x : ℕ) → e < count → ofStates count e x ≡ x
@@ -121,9 +132,9 @@ module _ (ch : Chain) (B : ℕ) (levels w : List ℕ) (R : ℕ) (l : List ℕ) (
   sums-again n k now e = blocks-again B 0 (length levels) _ _ l now enough e
 
 -- the same for a function that has the sums in its cells, over what stood there, and the table of a chain in arrays
-module _ (z : Sizes) (c f levels w : List ℕ) (g : Summable z c f levels w) (l : List ℕ) (enough : length levels * z .block ≤ length l) where
+module _ (z : Sizes) (a : Listing) (f levels w : List ℕ) (g : Summable z a f levels w) (l : List ℕ) (enough : length levels * z .block ≤ length l) where
   abbrev ch : Chain
-  ch = arrays z c f
+  ch = arrays z a f
 
   abbrev R : ℕ
   R = z .highest

@@ -5,7 +5,7 @@ use Prim.Native.Nat.{ℕ, _+_, _*_, _/_, _%_, _≤_, _<_}
 use lib.ListN.{length, getD}
 use Rattle.definitions.specs.declared.Sizes.{Sizes}
 use Rattle.definitions.specs.Sums.{largest, over}
-use Rattle.definitions.specs.Chain.{Chain}
+use Rattle.definitions.specs.Chain.{Chain, Listing}
 use Rattle.definitions.specs.Vectors.{U}
 use Rattle.definitions.specs.Weights.{weight, weightSum}
 use Rattle.definitions.specs.Level.{level}
@@ -48,8 +48,8 @@ abbrev pub meansOf : Chain → List ℕ → ℕ → ℕ → ℕ → ℕ → ℕ
 meansOf ch xs ε R k = cellMean ch (getD xs k 0) R (levelOf xs ε k)
 
 -- the limits of document 01, of a chain in arrays, a list of X, and ε
-pub record Solvable (z : Sizes) (c f xs : List ℕ) (ε : ℕ) : Type 0 where
-  pub ready : Ready z c f
+pub record Solvable (z : Sizes) (a : Listing) (f xs : List ℕ) (ε : ℕ) : Type 0 where
+  pub ready : Ready z a f
   pub fitting : Fitting z
   pub highest-pos : 1 ≤ z .highest
   pub highest-max : z .highest ≤ 8

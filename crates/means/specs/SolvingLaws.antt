@@ -8,7 +8,7 @@ use lib.ListN.{length, getD, take, drop, List·getD-append}
 use lib.Seq.{length-take-le, getD-take, getD-drop, drop-at}
 use Rattle.definitions.specs.declared.Sizes.{Sizes}
 use Rattle.definitions.specs.Sums.{over, blocks}
-use Rattle.definitions.specs.Chain.{Chain, arrays}
+use Rattle.definitions.specs.Chain.{Chain, Listing, arrays}
 use Rattle.definitions.specs.Vectors.{U}
 use Rattle.definitions.specs.Weights.{weight}
 use Rattle.definitions.specs.Moment.{term, weighted, lastQuotient, weightedMean}
@@ -59,9 +59,9 @@ module _ (xs : List ℕ) (ε : ℕ) (g : Truncatable xs ε) where
           ∙ sym (getD-drop (i * LEVELS) w n 0)
           ∙ before i earlier n h
 
-module _ (z : Sizes) (c f xs : List ℕ) (ε : ℕ) (g : Solvable z c f xs ε) (top : ℕ) (before levels totals w : List ℕ) (t : Truncations xs ε top before levels totals w) (held : length xs ≤ length before) where
+module _ (z : Sizes) (lists : Listing) (f xs : List ℕ) (ε : ℕ) (g : Solvable z lists f xs ε) (top : ℕ) (before levels totals w : List ℕ) (t : Truncations xs ε top before levels totals w) (held : length xs ≤ length before) where
   abbrev ch : Chain
-  ch = arrays z c f
+  ch = arrays z lists f
 
   abbrev R : ℕ
   R = z .highest
@@ -96,7 +96,7 @@ module _ (z : Sizes) (c f xs : List ℕ) (ε : ℕ) (g : Solvable z c f xs ε) (
         largest-max = omega (arith, t .is-largest, largest-le (length xs) 563 (levelOf xs ε) (λ k h. omega (arith, level-short k h)));
       }
 
-  pub summable : length xs * LEVELS ≤ length w → Summable z c f used w
+  pub summable : length xs * LEVELS ≤ length w → Summable z lists f used w
   summable room =
       record {
         ready = g .ready;

@@ -9,7 +9,7 @@ ghost use Prim.Native.Nat.{max, _+_, _*_, _%_, _^_, _<_, _≤_};
 ghost use lib.ListN.{length, getD};
 ghost use Rattle.definitions.specs.Sums.{over, blocks};
 ghost use Rattle.definitions.specs.Division.{Divides, Rounds};
-ghost use Rattle.definitions.specs.Chain.{arrays};
+ghost use Rattle.definitions.specs.Chain.{listed, arrays};
 ghost use Rattle.definitions.specs.Vectors.{ONE};
 ghost use Rattle.definitions.specs.Moment.{term, lastQuotient};
 ghost use Rattle.laws.specs.LevelLaws.{LEVELS};
@@ -59,7 +59,8 @@ fn add_terms(sizes: Sizes, w: u64, table: &[[u64; 64]; 9], cells: &mut [u64])
     }
 }
 
-// The same where the level is not below n, with w(n) from a row of weights; past the level the sums stay.
+// The same where the level is not below n, with w(n) from a row of weights. Past the level the sums stay, and where w(n) is 0,
+// since its terms are 0.
 fn add_up_to_level(
     sizes: Sizes,
     n: u64,
@@ -74,7 +75,11 @@ fn add_up_to_level(
     if n > level {
         return;
     }
-    add_terms(sizes, row[n as usize], table, cells);
+    let w = row[n as usize];
+    if w == 0 {
+        return;
+    }
+    add_terms(sizes, w, table, cells);
 }
 
 // The same for every X: block k of the cells has the sums of X number k.
@@ -101,15 +106,17 @@ fn add_to_blocks(
 // n are computed once, as far as the largest level needs.
 fn accumulate(
     sizes: Sizes,
-    chain: &[u32],
+    targets: &[u8],
+    rates: &[u32],
+    counts: &[usize; 64],
     rewards: &[u64; 64],
     levels: &[u64],
     largest: u64,
     weights: &[u64],
     cells: &mut [u64],
 )
-    requires { ⌜ Summable sizes (now chain) (now rewards) (now levels) (now weights) × Topmost largest (now levels) × (length (now levels) * sizes .block ≤ length (now cells)) ⌝ }
-    ensures { λ r. ⌜ now (cells .exit) ≡ partSums (arrays sizes (now (chain .entry)) (now (rewards .entry))) (sizes .block) (now (levels .entry)) (now (weights .entry)) (sizes .highest) (largest + 1) (now (cells .entry)) ⌝ }
+    requires { ⌜ Summable sizes (listed (now targets) (now rates) (now counts)) (now rewards) (now levels) (now weights) × Topmost largest (now levels) × (length (now levels) * sizes .block ≤ length (now cells)) ⌝ }
+    ensures { λ r. ⌜ now (cells .exit) ≡ partSums (arrays sizes (listed (now (targets .entry)) (now (rates .entry)) (now (counts .entry))) (now (rewards .entry))) (sizes .block) (now (levels .entry)) (now (weights .entry)) (sizes .highest) (largest + 1) (now (cells .entry)) ⌝ }
 {
     let zeros = [0u64; 64];
     let mut table = [zeros; 9];
@@ -119,7 +126,7 @@ fn accumulate(
     let mut n: u64 = 0;
     while n < largest {
         n += 1;
-        vectors::next_table(sizes, chain, rewards, n, &mut table);
+        vectors::next_table(sizes, targets, rates, counts, rewards, n, &mut table);
         add_to_blocks(sizes, n, levels, weights, &table, cells);
     }
 }
@@ -192,7 +199,9 @@ fn truncate_each(
 // number k, with 0 in the cells of a block past the moments. The rows of weights are lent.
 pub fn solve(
     sizes: Sizes,
-    chain: &[u32],
+    targets: &[u8],
+    rates: &[u32],
+    counts: &[usize; 64],
     rewards: &[u64; 64],
     xs: &[u64],
     tolerance: u64,
@@ -200,17 +209,19 @@ pub fn solve(
     levels: &mut [u64],
     cells: &mut [u64],
 )
-    requires { ⌜ Solvable sizes (now chain) (now rewards) (now xs) tolerance ⌝ }
+    requires { ⌜ Solvable sizes (listed (now targets) (now rates) (now counts)) (now rewards) (now xs) tolerance ⌝ }
     requires { ⌜ (length (now xs) * LEVELS ≤ length (now weights)) × (length (now xs) ≤ length (now levels)) × (length (now xs) * sizes .block ≤ length (now cells)) ⌝ }
     ensures levels { λ r. ⌜ now (levels .exit) ≡ over (length (now (xs .entry))) (levelOf (now (xs .entry)) tolerance) (now (levels .entry)) ⌝ }
-    ensures cells { λ r. ⌜ now (cells .exit) ≡ blocks (sizes .block) (length (now (xs .entry))) (meansOf (arrays sizes (now (chain .entry)) (now (rewards .entry))) (now (xs .entry)) tolerance (sizes .highest)) (now (cells .entry)) ⌝ }
+    ensures cells { λ r. ⌜ now (cells .exit) ≡ blocks (sizes .block) (length (now (xs .entry))) (meansOf (arrays sizes (listed (now (targets .entry)) (now (rates .entry)) (now (counts .entry))) (now (rewards .entry))) (now (xs .entry)) tolerance (sizes .highest)) (now (cells .entry)) ⌝ }
 {
     let count = xs.len();
     let mut totals = [0u64; MOST_TIMES];
     let largest = truncate_each(xs, tolerance, levels, &mut totals, weights);
     accumulate(
         sizes,
-        chain,
+        targets,
+        rates,
+        counts,
         rewards,
         &levels[..count],
         largest,

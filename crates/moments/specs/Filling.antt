@@ -6,16 +6,16 @@ use lib.ListN.{length, getD}
 use Rattle.definitions.specs.declared.Sizes.{Sizes}
 use Rattle.definitions.specs.Sums.{sum, blocks}
 use Rattle.definitions.specs.File.{stateCount, highestMoment, distributions, weightField}
-use Rattle.definitions.specs.Chain.{Model, modelOf, uniformRate, sizesOf}
+use Rattle.definitions.specs.Chain.{Model, Listing, modelOf, uniformRate, sizesOf}
 use Rattle.definitions.specs.Vectors.{ONE}
 use Rattle.definitions.specs.Weights.{MILLION}
 use Rattle.laws.specs.Acceptance.{Framed}
 use Rattle.start.specs.Figures.{startCell}
 use Rattle.vectors.specs.ModelLaws.{Held}
 
--- the arrays and numbers that were read are those of a model, its chain in the place of the first entries of l, with X of each time
-pub record ReadAs (m : Model) (times : List ℕ) (z : Sizes) (l c f xs : List ℕ) (ε : ℕ) : Type 0 where
-  pub held : Held m z l c f
+-- the arrays and numbers that were read are those of a model, with X of each time
+pub record ReadAs (m : Model) (times : List ℕ) (z : Sizes) (a : Listing) (f xs : List ℕ) (ε : ℕ) : Type 0 where
+  pub held : Held m z a f
   pub count : length xs ≡ length times
   pub jumps : (k : ℕ) → k < length times → getD xs k 0 ≡ uniformRate m * getD times k 0
   pub tolerance : ε ≡ m .tolerance

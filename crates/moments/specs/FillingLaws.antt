@@ -11,7 +11,7 @@ use borrow.Author.Tests.{lt-ltb, le-ltb}
 use Rattle.definitions.specs.declared.Sizes.{Sizes}
 use Rattle.definitions.specs.Sums.{over, blocks, pick}
 use Rattle.definitions.specs.File.{stateCount, highestMoment, timeField, distributions, weightField}
-use Rattle.definitions.specs.Chain.{Model, Chain, modelOf, atTime, arrays, chainOf, uniformRate, jumpMillionths, padded, sizesOf}
+use Rattle.definitions.specs.Chain.{Model, Chain, Listing, modelOf, atTime, arrays, chainOf, uniformRate, jumpMillionths, padded, sizesOf}
 use Rattle.definitions.specs.Vectors.{U}
 use Rattle.definitions.specs.Level.{level}
 use Rattle.definitions.specs.Rules.{accepted, blockSize}
@@ -22,29 +22,30 @@ use Rattle.laws.specs.SumLaws.{sum-same}
 use Rattle.laws.specs.ArrayLaws.{entryOf}
 use Rattle.laws.specs.ListLaws.{getD-over, over-same}
 use Rattle.laws.specs.BlockLaws.{length-blocks, getD-blocks, blocks-same, blocks-again, blocks-kept, blocks-one}
-use Rattle.laws.specs.ChainLaws.{distributions-max, getD-padded, arrays-same, rate-at, chain-at}
+use Rattle.laws.specs.ChainLaws.{distributions-max, SameChain, getD-padded, rate-at, chain-at}
 use Rattle.laws.specs.VectorLaws.{U-same}
-use Rattle.laws.specs.MomentLaws.{weighted-same, state-of-cell, figure-of-state, figure-of-start}
+use Rattle.laws.specs.ArrowLaws.{arrays-same}
+use Rattle.laws.specs.MomentLaws.{weighted-mean-same, state-of-cell, figure-of-state, figure-of-start}
 use Rattle.laws.specs.StartLaws.{mean-same}
 use Rattle.laws.specs.Demand3.{moment-max}
 use Rattle.laws.specs.Acceptance.{WithinLimits, AcceptedSeries, block-max}
-use Rattle.vectors.specs.ModelLaws.{held, held-ready}
+use Rattle.vectors.specs.ModelLaws.{held-ready}
 use Rattle.start.specs.Figures.{startCell, Distribution, AllMoments}
 use Rattle.means.specs.RunningLaws.{in-states}
 use Rattle.means.specs.Solving.{levelOf, cellMean, meansOf, Solvable}
 use Rattle.moments.specs.Filling.{ReadAs, started, Startable}
 
 -- in a state's cell, the mean from the arrays of a model's chain is the model's moment, at any time
-cell-at : (m : Model) (l : List ℕ) (T N e : ℕ) → m .states ≤ 64 → e < m .states * m .highest → cellMean (held m l) (uniformRate m * T) (m .highest) N e ≡ moment (atTime m T) N (e % m .highest + 1) (e / m .highest)
+cell-at : (m : Model) (ch : Chain) → SameChain ch (chainOf m) → (T N e : ℕ) → e < m .states * m .highest → cellMean ch (uniformRate m * T) (m .highest) N e ≡ moment (atTime m T) N (e % m .highest + 1) (e / m .highest)
 unfolding cellMean moment jumpMillionths
-cell-at m l T N e h b =
-    in-states (m .states * m .highest) e _ b
-    ∙ weighted-same (uniformRate m * T) N _ _
-    (λ n low. U-same (held m l) (chainOf m) (arrays-same m l h) n (e % m .highest + 1) (e / m .highest) (state-of-cell e (m .states) (m .highest) b))
+cell-at m ch same T N e b =
+    in-states (ch .states * m .highest) e _ (rw (same .states) b)
+    ∙ weighted-mean-same (uniformRate m * T) N _ _
+    (λ n low. U-same ch (chainOf m) same n (e % m .highest + 1) (e / m .highest) (state-of-cell e (ch .states) (m .highest) (rw (same .states) b)))
     ∙ ap₂ (λ (E : ℕ) (ch : Chain). weightedMean (E * T) (λ n. U ch n (e % m .highest + 1) (e / m .highest)) N) (sym (rate-at m T)) (sym (chain-at m T))
 
 -- what was read of an accepted file and list
-module _ (s times : List ℕ) (levels cells : ℕ) (g : AcceptedSeries s times levels cells) (z : Sizes) (l c f xs : List ℕ) (ε : ℕ) (e : ReadAs (modelOf s) times z l c f xs ε) where
+module _ (s times : List ℕ) (levels cells : ℕ) (g : AcceptedSeries s times levels cells) (z : Sizes) (a : Listing) (f xs : List ℕ) (ε : ℕ) (e : ReadAs (modelOf s) times z a f xs ε) where
   abbrev m : Model
   m = modelOf s
 
@@ -57,7 +58,7 @@ module _ (s times : List ℕ) (levels cells : ℕ) (g : AcceptedSeries s times l
   is-jumps k h = e .jumps k h ∙ ap (λ (E : ℕ). E * getD times k 0) (sym (rate-at m (getD times k 0)))
 
   -- can be solved
-  pub solvable : Solvable z c f xs ε
+  pub solvable : Solvable z a f xs ε
   solvable =
       record {
         ready = held-ready m (getD times 0 0) (e .held) first;
@@ -86,13 +87,13 @@ module _ (s times : List ℕ) (levels cells : ℕ) (g : AcceptedSeries s times l
   levels-are before = rw (e .count) (over-same (length times) (levelOf xs ε) (levelAt s times) before level-is)
 
   -- and moments, in the cells of the states
-  module _ (before : List ℕ) (room : length times * blockSize s ≤ length before) (now : List ℕ) (solved : now ≡ blocks (z .block) (length xs) (meansOf (arrays z c f) xs ε (z .highest)) before) where
+  module _ (before : List ℕ) (room : length times * blockSize s ≤ length before) (now : List ℕ) (solved : now ≡ blocks (z .block) (length xs) (meansOf (arrays z a f) xs ε (z .highest)) before) where
     moment-in : (k i : ℕ) → k < length times → i < m .states * m .highest → getD now (k * blockSize s + i) 0 ≡ moment (modelAt s times k) (levelAt s times k) (i % m .highest + 1) (i / m .highest)
     moment-in k i hk hi =
-        ap (λ (x : List ℕ). getD x (k * blockSize s + i) 0) (rw (e .count, e .held .sizes, e .held .entries, e .held .rewards) at solved)
+        ap (λ (x : List ℕ). getD x (k * blockSize s + i) 0) (rw (e .count, e .held .sizes) at solved)
         ∙ getD-blocks (blockSize s) 0 (length times) _ before k i hk (omega arith)
-        ∙ ap₂ (λ (X N : ℕ). cellMean (held m l) X (m .highest) N i) (e .jumps k hk) (level-is k hk)
-        ∙ cell-at m l (getD times k 0) (levelAt s times k) i (first .states-max) hi
+        ∙ ap₂ (λ (X N : ℕ). cellMean (arrays (sizesOf m) a f) X (m .highest) N i) (e .jumps k hk) (level-is k hk)
+        ∙ cell-at m (arrays (sizesOf m) a f) (arrays-same m a (e .held .rows) f (e .held .rewards) (first .states-max)) (getD times k 0) (levelAt s times k) i hi
 
     -- ready for the start figures
     pub startable : Startable s z (length times) now
@@ -103,7 +104,7 @@ module _ (s times : List ℕ) (levels cells : ℕ) (g : AcceptedSeries s times l
           full = first .weights-sum;
           sizes = e .held .sizes;
           count-max = g .count-max;
-          room = rw (e .held .sizes) (omega (arith, room, ap length (rw (e .count, e .held .sizes) at solved), length-blocks (blockSize s) (length times) (meansOf (arrays (sizesOf m) c f) xs ε (m .highest)) before room));
+          room = rw (e .held .sizes) (omega (arith, room, ap length (rw (e .count, e .held .sizes) at solved), length-blocks (blockSize s) (length times) (meansOf (arrays (sizesOf m) a f) xs ε (m .highest)) before room));
           most = rw (e .held .sizes) (λ k i hk hi. rw (moment-in k i hk hi) (unfold levelAt in moment-max (modelAt s times k) (g .limits k hk) (i % m .highest + 1) (i / m .highest) (state-of-cell i (m .states) (m .highest) hi)));
         }
 

@@ -19,8 +19,8 @@ use definitions::Outcome;
 use definitions::Series;
 use definitions::Sizes;
 
-// At most this many states have their chain in a smaller array: a small file does not pay for the clearing
-// of a large one.
+// At most this many states have their rows in smaller arrays: a small file does not pay for the clearing of
+// large ones.
 const FEW_STATES: usize = 16;
 
 // X of each time, in the first entries of what is lent.
@@ -46,24 +46,26 @@ fn put_starts(file: &[u8], sizes: Sizes, count: usize, cells: &mut [u64])
     start::put_in_blocks(&weights, sizes.states, sizes.highest, count, cells);
 }
 
-// A level and a block for each time of a list, of an accepted file: what it states is read, its chain into the
-// entries that are lent.
+// A level and a block for each time of a list, of an accepted file: what it states is read, its rows into the
+// places that are lent.
 fn fill_with(
     file: &[u8],
     times: &[u32],
-    chain: &mut [u32],
+    targets: &mut [u8],
+    rates: &mut [u32],
     weights: &mut [u64],
     levels: &mut [u64],
     cells: &mut [u64],
 )
     requires { ⌜ AcceptedSeries (now file) (now times) (length (now levels)) (length (now cells)) ⌝ }
-    requires { ⌜ (stateCount (now file) * stateCount (now file) ≤ length (now chain)) × (length (now times) * LEVELS ≤ length (now weights)) ⌝ }
+    requires { ⌜ (stateCount (now file) * stateCount (now file) ≤ length (now targets)) × (stateCount (now file) * stateCount (now file) ≤ length (now rates)) × (length (now times) * LEVELS ≤ length (now weights)) ⌝ }
     ensures levels { λ r. ⌜ now (levels .exit) ≡ levelsAfter (accepted tt) (now (file .entry)) (now (times .entry)) (now (levels .entry)) ⌝ }
     ensures cells { λ r. ⌜ now (cells .exit) ≡ blocksAfter (accepted tt) (now (file .entry)) (now (times .entry)) (now (cells .entry)) ⌝ }
 {
     let sums = reader::row_sums(file);
     let sizes = reader::sizes_of(file, &sums);
-    reader::write_chain(file, &sums, sizes.rate, chain);
+    let mut counts = [0usize; 64];
+    arrows::list_rows(file, &sums, sizes.rate, targets, rates, &mut counts);
     let rewards = reader::rewards_of(file);
     let mut xs = [0u64; MOST_TIMES];
     write_jumps(sizes.rate, times, &mut xs);
@@ -71,7 +73,9 @@ fn fill_with(
     let tolerance = reader::tolerance(file);
     means::solve(
         sizes,
-        chain,
+        targets,
+        rates,
+        &counts,
         &rewards,
         &xs[..count],
         tolerance,
@@ -82,7 +86,7 @@ fn fill_with(
     put_starts(file, sizes, count, cells);
 }
 
-// The same, with entries enough for the chain.
+// The same, with places enough for the rows.
 fn fill(file: &[u8], times: &[u32], weights: &mut [u64], levels: &mut [u64], cells: &mut [u64])
     requires { ⌜ AcceptedSeries (now file) (now times) (length (now levels)) (length (now cells)) × (length (now times) * LEVELS ≤ length (now weights)) ⌝ }
     ensures levels { λ r. ⌜ now (levels .exit) ≡ levelsAfter (accepted tt) (now (file .entry)) (now (times .entry)) (now (levels .entry)) ⌝ }
@@ -90,12 +94,30 @@ fn fill(file: &[u8], times: &[u32], weights: &mut [u64], levels: &mut [u64], cel
 {
     let states = reader::state_count(file);
     if states <= FEW_STATES {
-        let mut chain = [0u32; FEW_STATES * FEW_STATES];
-        fill_with(file, times, &mut chain, weights, levels, cells);
+        let mut targets = [0u8; FEW_STATES * FEW_STATES];
+        let mut rates = [0u32; FEW_STATES * FEW_STATES];
+        fill_with(
+            file,
+            times,
+            &mut targets,
+            &mut rates,
+            weights,
+            levels,
+            cells,
+        );
         return;
     }
-    let mut chain = [0u32; 64 * 64];
-    fill_with(file, times, &mut chain, weights, levels, cells);
+    let mut targets = [0u8; 64 * 64];
+    let mut rates = [0u32; 64 * 64];
+    fill_with(
+        file,
+        times,
+        &mut targets,
+        &mut rates,
+        weights,
+        levels,
+        cells,
+    );
 }
 
 // The level and the block for the file's own time: a list of one.

@@ -1,4 +1,4 @@
-// The reader of a model file: the model and the chain that it states.
+// The reader of a model file: the model that it states.
 //
 // Document 01 counts bytes from 0 and numbers are big-endian. The header's fields ask for its 13 bytes;
 // the functions past it ask that the file is framed (`Framed` in the crate laws): M is 1 to 64, and the
@@ -10,11 +10,10 @@ ghost use lib.ListN.{length, drop, getD};
 ghost use Rattle.definitions.specs.Sums.{sum, largest, pick};
 ghost use Rattle.definitions.specs.Bytes.{big};
 ghost use Rattle.definitions.specs.File.{lengthField, version, stateCount, highestMoment, toleranceField, timeField, distributions, weightField, rewardsAt, rewardField, rowAt, place};
-ghost use Rattle.definitions.specs.Chain.{modelOf, rowSum, uniformRate, maxReward, chainOf, padded, flat, sizesOf};
+ghost use Rattle.definitions.specs.Chain.{modelOf, rowSum, uniformRate, maxReward, padded, sizesOf};
 ghost use Rattle.definitions.specs.Rules.{blockSize};
 ghost use Rattle.laws.specs.Acceptance.{Framed};
 ghost use Rattle.laws.specs.ArrayLaws.{entryOf};
-ghost use Rattle.reader.specs.Rows.{chainRows, WritesRow};
 use definitions::Sizes;
 
 // 1. Where the file's numbers stand. No offset is written anywhere else.
@@ -217,7 +216,7 @@ fn row_at(file: &[u8], i: usize) -> usize
 }
 
 // The part of the file where state i's row of rates starts.
-fn row_of(file: &[u8], i: usize) -> &[u8]
+pub fn row_of(file: &[u8], i: usize) -> &[u8]
     requires { ⌜ Framed (now file) × (i < stateCount (now file)) ⌝ }
     ensures { λ r. ⌜ now r ≡ drop (rowAt (now (file .entry)) i) (now (file .entry)) ⌝ }
 {
@@ -226,7 +225,7 @@ fn row_of(file: &[u8], i: usize) -> &[u8]
 }
 
 // Entry j of row i. The row in the file leaves the diagonal out: the caller says what stands there.
-fn entry_in(row: &[u8], i: usize, j: usize, diagonal: u64) -> u64
+pub fn entry_in(row: &[u8], i: usize, j: usize, diagonal: u64) -> u64
     requires { ⌜ ((j ≡ i → ⊥) → 4 * place i j + 4 ≤ length (now row)) ⌝ }
     ensures { λ r. ⌜ (r ≡ pick (eqb j i) diagonal (big 4 (now (row .entry)) (4 * place i j))) × (diagonal < 2 ^ 32 → r < 2 ^ 32) ⌝ }
 {
@@ -301,32 +300,4 @@ pub fn jump_millionths(rate: u64, time: u32) -> u64
     ensures { λ r. ⌜ r ≡ rate * time ⌝ }
 {
     rate * time as u64
-}
-
-// 6. The chain c, row after row without gaps: c(i,j) is entry M × i + j.
-
-// Row i of c, written after the rows before it.
-fn write_row(file: &[u8], i: usize, diagonal: u64, chain: &mut [u32])
-    requires { ⌜ WritesRow (now file) i diagonal (now chain) ⌝ }
-    ensures { λ r. ⌜ now (chain .exit) ≡ chainRows (now (file .entry)) (now (chain .entry)) (i + 1) ⌝ }
-{
-    let states = state_count(file);
-    let row = row_of(file, i);
-    for j in 0..states {
-        chain[i * states + j] = entry_in(row, i, j, diagonal) as u32;
-    }
-}
-
-// c as the first M × M entries of what is lent: the rates, and on the diagonal E less the row's sum. The
-// entries past c stay.
-pub fn write_chain(file: &[u8], sums: &[u64; 64], rate: u64, chain: &mut [u32])
-    requires { ⌜ Framed (now file) × (stateCount (now file) * stateCount (now file) ≤ length (now chain)) ⌝ }
-    requires { ⌜ now sums ≡ padded (stateCount (now file)) (rowSum (modelOf (now file))) ⌝ }
-    requires { ⌜ (rate ≡ uniformRate (modelOf (now file))) × (rate < 2 ^ 32) ⌝ }
-    ensures { λ r. ⌜ now (chain .exit) ≡ flat (chainOf (modelOf (now (file .entry)))) (now (chain .entry)) ⌝ }
-{
-    let states = state_count(file);
-    for i in 0..states {
-        write_row(file, i, rate - sums[i], chain);
-    }
 }

@@ -2,7 +2,7 @@
 ghost use mathlib.Core.Path.{_≡_};
 ghost use mathlib.Core.Bool.{_||_};
 ghost use Prim.Native.Nat.{_-_};
-ghost use Rattle.definitions.specs.Chain.{modelOf, chainOf, uniformRate, arrays, padded, rowSum, sizesOf};
+ghost use Rattle.definitions.specs.Chain.{modelOf, chainOf, uniformRate, listed, arrays, padded, rowSum, sizesOf};
 ghost use Rattle.definitions.specs.Rules.{accepted, outside};
 ghost use Rattle.definitions.specs.Moment.{modelLevel};
 ghost use Rattle.definitions.specs.Remainders.{restsAt, restsOf, remaindersOf, remaindersAnswer, WorkedOut};
@@ -16,16 +16,25 @@ use definitions::Sizes;
 
 // The remainders of U(n,r) at state i, counted from 0, of a chain that stands in arrays: V comes from U(n-1,r), W from U(n,r-1)
 // at i, and U from V and W.
-fn rests_at(sizes: Sizes, chain: &[u32], rewards: &[u64; 64], n: u64, r: usize, i: usize) -> Rests
-    requires { ⌜ Askable sizes (now chain) (now rewards) n r i ⌝ }
-    ensures { λ x. ⌜ x ≡ restsAt (arrays sizes (now (chain .entry)) (now (rewards .entry))) n r i ⌝ }
+fn rests_at(
+    sizes: Sizes,
+    targets: &[u8],
+    rates: &[u32],
+    counts: &[usize; 64],
+    rewards: &[u64; 64],
+    n: u64,
+    r: usize,
+    i: usize,
+) -> Rests
+    requires { ⌜ Askable sizes (listed (now targets) (now rates) (now counts)) (now rewards) n r i ⌝ }
+    ensures { λ x. ⌜ x ≡ restsAt (arrays sizes (listed (now (targets .entry)) (now (rates .entry)) (now (counts .entry))) (now (rewards .entry))) n r i ⌝ }
 {
     let zeros = [0u64; 64];
     let mut table = [zeros; 9];
-    vectors::table_at(sizes, chain, rewards, n - 1, &mut table);
+    vectors::table_at(sizes, targets, rates, counts, rewards, n - 1, &mut table);
     let before = table;
-    vectors::next_table(sizes, chain, rewards, n, &mut table);
-    let v = vectors::row_mean(sizes, chain, &before[r], i);
+    vectors::next_table(sizes, targets, rates, counts, rewards, n, &mut table);
+    let v = vectors::row_mean(sizes, targets, rates, counts, &before[r], i);
     let w = vectors::reward_share(rewards[i], table[r - 1][i], sizes.largest);
     let u = vectors::mix(n, r as u64, v.quotient, w.quotient);
     Rests {
@@ -41,10 +50,28 @@ fn rests_of(file: &[u8], sums: &[u64; 64], sizes: Sizes, state: u64, n: u64, r: 
     requires { ⌜ (now sums ≡ padded (modelOf (now file) .states) (rowSum (modelOf (now file)))) × (sizes ≡ sizesOf (modelOf (now file))) ⌝ }
     ensures { λ x. ⌜ x ≡ restsAt (chainOf (modelOf (now (file .entry)))) n r (state - 1) ⌝ }
 {
-    let mut chain = [0u32; 64 * 64];
-    reader::write_chain(file, sums, sizes.rate, &mut chain);
+    let mut targets = [0u8; 64 * 64];
+    let mut rates = [0u32; 64 * 64];
+    let mut counts = [0usize; 64];
+    arrows::list_rows(
+        file,
+        sums,
+        sizes.rate,
+        &mut targets,
+        &mut rates,
+        &mut counts,
+    );
     let rewards = reader::rewards_of(file);
-    rests_at(sizes, &chain, &rewards, n, r as usize, (state - 1) as usize)
+    rests_at(
+        sizes,
+        &targets,
+        &rates,
+        &counts,
+        &rewards,
+        n,
+        r as usize,
+        (state - 1) as usize,
+    )
 }
 
 // N, the level of an accepted file.

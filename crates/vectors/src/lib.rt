@@ -1,13 +1,14 @@
 // The reward vectors U(n,r): a number of ticks for each of 64 states.
 //
-// The chain c is lent, row after row without gaps: c(i,j) at i * M + j. A vector goes in by value and
-// the new one comes back: no vector changes while it is read.
+// The rows of c are lent, M places for each, row i from i * M on: in a place stand a state and its entry of c. A row uses the
+// first of its places, counts[i] of them, for the states that are not left out, highest first (crate arrows). A vector goes in
+// by value and the new one comes back: no vector changes while it is read.
 ghost use mathlib.Core.Path.{_≡_};
 ghost use mathlib.Core.List.{List};
 ghost use Prim.Native.Nat.{ℕ, _+_, _*_, _-_, _≤_};
 ghost use lib.ListN.{getD};
 ghost use Rattle.definitions.specs.Division.{division};
-ghost use Rattle.definitions.specs.Chain.{arrays, padded};
+ghost use Rattle.definitions.specs.Chain.{Listing, listed, arrays, padded};
 ghost use Rattle.definitions.specs.Vectors.{rowTotal, rewardShare, mixed, nextEntry, ONE};
 ghost use Rattle.laws.specs.ArrayLaws.{entryOf};
 ghost use Rattle.vectors.specs.Ready.{RowReady, MixReady, StepReady, Ticks, RewardsReady, Ready};
@@ -22,15 +23,24 @@ fn wide(x: u32) -> u64
     x as u64
 }
 
-// V: the sum over j of c(i,j) * v(j), by E. It reads no reward.
-pub fn row_mean(sizes: Sizes, chain: &[u32], v: &[u64; 64], i: usize) -> Division
-    requires { ⌜ RowReady sizes (now chain) (now v) i ⌝ }
-    ensures { λ d. ⌜ ((f : List ℕ) → d ≡ division (rowTotal (arrays sizes (now (chain .entry)) f) (entryOf (now (v .entry))) i) (sizes .rate)) ⌝ }
+// V: the sum over j of c(i,j) * v(j), by E. It adds what row i lists, in the list's order, and reads no reward.
+pub fn row_mean(
+    sizes: Sizes,
+    targets: &[u8],
+    rates: &[u32],
+    counts: &[usize; 64],
+    v: &[u64; 64],
+    i: usize,
+) -> Division
+    requires { ⌜ RowReady sizes (listed (now targets) (now rates) (now counts)) (now v) i ⌝ }
+    ensures { λ d. ⌜ ((f : List ℕ) → d ≡ division (rowTotal (arrays sizes (listed (now (targets .entry)) (now (rates .entry)) (now (counts .entry))) f) (entryOf (now (v .entry))) i) (sizes .rate)) ⌝ }
 {
-    let states = sizes.states;
+    let first = i * sizes.states;
+    let count = counts[i];
     let mut total = 0;
-    for j in 0..states {
-        total += wide(chain[i * states + j]) * v[j];
+    for k in 0..count {
+        let j = targets[first + k] as usize;
+        total += wide(rates[first + k]) * v[j];
     }
     muldiv::divide(total, sizes.rate)
 }
@@ -54,20 +64,22 @@ pub fn mix(n: u64, r: u64, v: u64, w: u64) -> Division
 // U(n,r) of U(n-1,r), before, and U(n,r-1), same: at the states, and 0 past them. The three remainders are dropped.
 pub fn step(
     sizes: Sizes,
-    chain: &[u32],
+    targets: &[u8],
+    rates: &[u32],
+    counts: &[usize; 64],
     rewards: &[u64; 64],
     n: u64,
     r: u64,
     before: [u64; 64],
     same: [u64; 64],
 ) -> [u64; 64]
-    requires { ⌜ StepReady sizes (now chain) (now rewards) n r before same ⌝ }
-    ensures { λ u. ⌜ u ≡ padded (sizes .states) (nextEntry (arrays sizes (now (chain .entry)) (now (rewards .entry))) n r (entryOf before) (entryOf same)) ⌝ }
+    requires { ⌜ StepReady sizes (listed (now targets) (now rates) (now counts)) (now rewards) n r before same ⌝ }
+    ensures { λ u. ⌜ u ≡ padded (sizes .states) (nextEntry (arrays sizes (listed (now (targets .entry)) (now (rates .entry)) (now (counts .entry))) (now (rewards .entry))) n r (entryOf before) (entryOf same)) ⌝ }
 {
     let states = sizes.states;
     let mut next = [0u64; 64];
     for i in 0..states {
-        let v = row_mean(sizes, chain, &before, i);
+        let v = row_mean(sizes, targets, rates, counts, &before, i);
         let w = reward_share(rewards[i], same[i], sizes.largest);
         let u = mix(n, r, v.quotient, w.quotient);
         next[i] = u.quotient;
@@ -90,7 +102,7 @@ fn ones(states: usize) -> [u64; 64]
 // U(0,r) of U(0,r-1), same: W at the states, its remainder dropped, and 0 past them. It reads no chain.
 fn shares(sizes: Sizes, rewards: &[u64; 64], same: [u64; 64]) -> [u64; 64]
     requires { ⌜ RewardsReady sizes (now rewards) × Ticks (sizes .states) same ⌝ }
-    ensures { λ u. ⌜ ((c : List ℕ) → u ≡ padded (sizes .states) (λ i. rewardShare (arrays sizes c (now (rewards .entry))) (getD same i 0) i)) ⌝ }
+    ensures { λ u. ⌜ ((a : Listing) → u ≡ padded (sizes .states) (λ i. rewardShare (arrays sizes a (now (rewards .entry))) (getD same i 0) i)) ⌝ }
 {
     let states = sizes.states;
     let mut next = [0u64; 64];
@@ -105,7 +117,7 @@ fn shares(sizes: Sizes, rewards: &[u64; 64], same: [u64; 64]) -> [u64; 64]
 // no chain.
 pub fn first_table(sizes: Sizes, rewards: &[u64; 64], table: &mut [[u64; 64]; 9])
     requires { ⌜ RewardsReady sizes (now rewards) × (sizes .highest ≤ 8) × (now table ≡ blank) ⌝ }
-    ensures { λ t. ⌜ ((c : List ℕ) → now (table .exit) ≡ tableOf (arrays sizes c (now (rewards .entry))) (sizes .highest) 0) ⌝ }
+    ensures { λ t. ⌜ ((a : Listing) → now (table .exit) ≡ tableOf (arrays sizes a (now (rewards .entry))) (sizes .highest) 0) ⌝ }
 {
     let highest = sizes.highest;
     table[0] = ones(sizes.states);
@@ -119,38 +131,52 @@ pub fn first_table(sizes: Sizes, rewards: &[u64; 64], table: &mut [[u64; 64]; 9]
 // row before it is U(n,r-1) by then.
 pub fn next_table(
     sizes: Sizes,
-    chain: &[u32],
+    targets: &[u8],
+    rates: &[u32],
+    counts: &[usize; 64],
     rewards: &[u64; 64],
     n: u64,
     table: &mut [[u64; 64]; 9],
 )
-    requires { ⌜ Ready sizes (now chain) (now rewards) × (sizes .highest ≤ 8) × (1 ≤ n) × (n ≤ 1024) ⌝ }
-    requires { ⌜ now table ≡ tableOf (arrays sizes (now chain) (now rewards)) (sizes .highest) (n - 1) ⌝ }
-    ensures { λ t. ⌜ now (table .exit) ≡ tableOf (arrays sizes (now (chain .entry)) (now (rewards .entry))) (sizes .highest) n ⌝ }
+    requires { ⌜ Ready sizes (listed (now targets) (now rates) (now counts)) (now rewards) × (sizes .highest ≤ 8) × (1 ≤ n) × (n ≤ 1024) ⌝ }
+    requires { ⌜ now table ≡ tableOf (arrays sizes (listed (now targets) (now rates) (now counts)) (now rewards)) (sizes .highest) (n - 1) ⌝ }
+    ensures { λ t. ⌜ now (table .exit) ≡ tableOf (arrays sizes (listed (now (targets .entry)) (now (rates .entry)) (now (counts .entry))) (now (rewards .entry))) (sizes .highest) n ⌝ }
 {
     let highest = sizes.highest;
     for r in 1..highest + 1 {
         let before = table[r];
         let same = table[r - 1];
-        table[r] = step(sizes, chain, rewards, n, r as u64, before, same);
+        table[r] = step(
+            sizes,
+            targets,
+            rates,
+            counts,
+            rewards,
+            n,
+            r as u64,
+            before,
+            same,
+        );
     }
 }
 
 // The vectors of n, in a table of zeros: row r becomes U(n,r).
 pub fn table_at(
     sizes: Sizes,
-    chain: &[u32],
+    targets: &[u8],
+    rates: &[u32],
+    counts: &[usize; 64],
     rewards: &[u64; 64],
     n: u64,
     table: &mut [[u64; 64]; 9],
 )
-    requires { ⌜ Ready sizes (now chain) (now rewards) × (sizes .highest ≤ 8) × (n ≤ 1024) × (now table ≡ blank) ⌝ }
-    ensures { λ t. ⌜ now (table .exit) ≡ tableOf (arrays sizes (now (chain .entry)) (now (rewards .entry))) (sizes .highest) n ⌝ }
+    requires { ⌜ Ready sizes (listed (now targets) (now rates) (now counts)) (now rewards) × (sizes .highest ≤ 8) × (n ≤ 1024) × (now table ≡ blank) ⌝ }
+    ensures { λ t. ⌜ now (table .exit) ≡ tableOf (arrays sizes (listed (now (targets .entry)) (now (rates .entry)) (now (counts .entry))) (now (rewards .entry))) (sizes .highest) n ⌝ }
 {
     first_table(sizes, rewards, table);
     let mut k: u64 = 0;
     while k < n {
         k += 1;
-        next_table(sizes, chain, rewards, k, table);
+        next_table(sizes, targets, rates, counts, rewards, k, table);
     }
 }

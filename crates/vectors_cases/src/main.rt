@@ -1,6 +1,7 @@
 // Writes the reward vectors of the two model files of the input, one with 2 states and one with 64. A line
 // has n, r, and U(n,r) at each state. cases.py makes the files, and the numbers to expect.
 ghost use Prim.Native.Nat.{_≤_};
+ghost use Rattle.definitions.specs.Chain.{listed};
 ghost use Rattle.laws.specs.Acceptance.{AcceptedFile};
 ghost use Rattle.vectors.specs.Ready.{Ready};
 use definitions::Judgement;
@@ -37,22 +38,38 @@ fn accepted_vectors(file: &[u8], last: u64)
 {
     let sums = reader::row_sums(file);
     let sizes = reader::sizes_of(file, &sums);
-    let mut chain = [0u32; 4096];
-    reader::write_chain(file, &sums, sizes.rate, &mut chain);
+    let mut targets = [0u8; 4096];
+    let mut rates = [0u32; 4096];
+    let mut counts = [0usize; 64];
+    arrows::list_rows(
+        file,
+        &sums,
+        sizes.rate,
+        &mut targets,
+        &mut rates,
+        &mut counts,
+    );
     let rewards = reader::rewards_of(file);
-    tables(sizes, &chain, &rewards, last);
+    tables(sizes, &targets, &rates, &counts, &rewards, last);
 }
 
 // Those of a chain that stands in arrays.
-fn tables(sizes: Sizes, chain: &[u32], rewards: &[u64; 64], last: u64)
-    requires { ⌜ Ready sizes (now chain) (now rewards) × (sizes .highest ≤ 8) × (last ≤ 1024) ⌝ }
+fn tables(
+    sizes: Sizes,
+    targets: &[u8],
+    rates: &[u32],
+    counts: &[usize; 64],
+    rewards: &[u64; 64],
+    last: u64,
+)
+    requires { ⌜ Ready sizes (listed (now targets) (now rates) (now counts)) (now rewards) × (sizes .highest ≤ 8) × (last ≤ 1024) ⌝ }
 {
     let zeros = [0u64; 64];
     let mut current = [zeros; 9];
     vectors::first_table(sizes, rewards, &mut current);
     table(sizes, 0, last, &current);
     for n in 1..last + 1 {
-        vectors::next_table(sizes, chain, rewards, n, &mut current);
+        vectors::next_table(sizes, targets, rates, counts, rewards, n, &mut current);
         table(sizes, n, last, &current);
     }
 }

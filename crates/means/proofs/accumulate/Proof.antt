@@ -5,7 +5,7 @@ use native.Mathlib.Nat.{mul-le-mul}
 use mathlib.Core.List.{List}
 use mathlib.Core.Path.{_≡_, refl, sym, _∙_, ap}
 use lib.ListN.{length}
-use Rattle.definitions.specs.Chain.{Chain, arrays}
+use Rattle.definitions.specs.Chain.{Chain, listed, arrays}
 use Rattle.laws.specs.ArrayLaws.{zeros}
 use Rattle.vectors.specs.Table.{blank, tableOf}
 use Rattle.means.specs.Running.{partSums}
@@ -14,16 +14,16 @@ use Rattle.means.proofs.accumulate.Statement.{statement}
 use Rattle.means.proofs.accumulate.Tie as tie
 
 abbrev Inv-loop : tie.InvT-loop
-Inv-loop sizes chain rewards levels largest weights cells₀ table₀ n₀ cells table n =
-    (n ≤ largest) × (table ≡ tableOf (arrays sizes chain rewards) (sizes .highest) n) × (cells ≡ partSums (arrays sizes chain rewards) (sizes .block) levels weights (sizes .highest) (n + 1) cells₀)
+Inv-loop sizes targets rates counts rewards levels largest weights cells₀ table₀ n₀ cells table n =
+    (n ≤ largest) × (table ≡ tableOf (arrays sizes (listed targets rates counts) rewards) (sizes .highest) n) × (cells ≡ partSums (arrays sizes (listed targets rates counts) rewards) (sizes .block) levels weights (sizes .highest) (n + 1) cells₀)
 
 abbrev μ-loop : tie.MeasureT-loop
-μ-loop sizes chain rewards levels largest weights cells₀ table₀ n₀ cells table n = largest - n
+μ-loop sizes targets rates counts rewards levels largest weights cells₀ table₀ n₀ cells table n = largest - n
 
 first-table-requires : tie.Need-first-table-requires Inv-loop μ-loop
 unfolding blank zeros
 first-table-requires c κs =
-    let start = c .before .before .before .before .before in
+    let start = c .before .before .before .before .before .before in
     (start .pre .0 .ready .rewards, start .pre .0 .highest-max, refl)
 
 -- the cells of all blocks
@@ -32,20 +32,20 @@ blocks-max c = mul-le-mul {n₂ = 8} {m₂ = 520} (c .pre .0 .count-max) (c .pre
 
 -- the blocks that are cleared lie in the cells
 clear-requires : tie.Need-clear-requires Inv-loop μ-loop
-clear-requires c κs = omega (arith, c .before .before .before .before .before .before .before .before .pre .2)
+clear-requires c κs = omega (arith, c .before .before .before .before .before .before .before .before .before .pre .2)
 
 add-requires : tie.Need-add-to-blocks-requires Inv-loop μ-loop
 add-requires c κs =
-    let start = c .before .before .before .before .before .before .before .before .before .before .before .before .before in
-    may-add (start .args .sizes) _ _ _ _ (start .pre .0) (start .args .cells .now) (start .pre .2) 0 _ _ (c .before .before .before .before .clear .ensures ∙ sums-none _ _ _ _ _ _ (start .pre .2) _ (omega arith)) (c .before .before .before .before .before .before .before .first-table .ensures (start .args .chain .now))
+    let start = c .before .before .before .before .before .before .before .before .before .before .before .before .before .before in
+    may-add (start .args .sizes) _ _ _ _ (start .pre .0) (start .args .cells .now) (start .pre .2) 0 _ _ (c .before .before .before .before .clear .ensures ∙ sums-none _ _ _ _ _ _ (start .pre .2) _ (omega arith)) (c .before .before .before .before .before .before .before .first-table .ensures (listed (start .args .targets .now) (start .args .rates .now) (start .args .counts .now)))
 
 -- where the loop begins the sums have the terms of n = 0
 module _ (b : tie.After-slice-known3 Inv-loop μ-loop) where
   abbrev start : tie.Start Inv-loop μ-loop
-  start = b .before .before .before .before .before .before .before .before .before .before .before .before .before .before .before .before
+  start = b .before .before .before .before .before .before .before .before .before .before .before .before .before .before .before .before .before
 
   abbrev ch : Chain
-  ch = arrays (start .args .sizes) (start .args .chain .now) (start .args .rewards .now)
+  ch = arrays (start .args .sizes) (listed (start .args .targets .now) (start .args .rates .now) (start .args .counts .now)) (start .args .rewards .now)
 
   abbrev sums : ℕ → List ℕ → List ℕ
   sums n l = partSums ch (start .args .sizes .block) (start .args .levels .now) (start .args .weights .now) (start .args .sizes .highest) n l
@@ -54,7 +54,7 @@ module _ (b : tie.After-slice-known3 Inv-loop μ-loop) where
   first = b .before .before .add-to-blocks .last .1 .1 .1 .1 .1 .0
 
   table : b .before .before .before .before .before .before .before .before .before .before .first-table .last .1 .1 .0 ≡ tableOf ch (start .args .sizes .highest) 0
-  table = b .before .before .before .before .before .before .before .before .before .before .first-table .ensures (start .args .chain .now)
+  table = b .before .before .before .before .before .before .before .before .before .before .first-table .ensures (listed (start .args .targets .now) (start .args .rates .now) (start .args .counts .now))
 
   begun : first ≡ sums 1 (start .args .cells .now)
   begun = added (start .args .sizes) _ _ _ _ (start .pre .0) (start .args .cells .now) (start .pre .2) 0 _ _ _ (b .before .before .before .before .before .before .before .clear .ensures ∙ sums-none _ _ _ _ _ _ (start .pre .2) _ (omega arith)) table (b .before .before .add-to-blocks .ensures)
@@ -108,7 +108,7 @@ accumulate-spec =
     Inv-loop
     μ-loop
     first-table-requires
-    (λ c. omega (arith, blocks-max (c .before .before .before .before .before .before .before)))
+    (λ c. omega (arith, blocks-max (c .before .before .before .before .before .before .before .before)))
     clear-requires
     add-requires
     loop-holds

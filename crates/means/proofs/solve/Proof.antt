@@ -12,7 +12,7 @@ use Rattle.means.proofs.solve.Tie as tie
 -- with the levels, the totals and the weights at hand
 module _ (d : tie.After-truncate-each) where
   abbrev start : tie.Start
-  start = d .before .before .before .before .before .before .before .before .before
+  start = d .before .before .before .before .before .before .before .before .before .before
 
   -- there is a level and a total for each X
   levels-held : length (start .args .xs .now) ≤ length (d .truncate-each .last .1 .1 .0)
@@ -46,7 +46,7 @@ solve-spec =
     tie.close
     (tie.spec
     (λ c. search needs)
-    (λ c κs. let begin = c .before .before .before .before .before .before .before .before in (begin .pre .0 .truncatable, begin .pre .1 .1, begin .pre .0 .truncatable .count-max, begin .pre .1 .0))
+    (λ c κs. let begin = c .before .before .before .before .before .before .before .before .before in (begin .pre .0 .truncatable, begin .pre .1 .1, begin .pre .0 .truncatable .count-max, begin .pre .1 .0))
     (λ c. levels-held (c .before .before .before .before .before))
     (λ c. sym (length-take-le _ _ (levels-held (c .before .before .before .before .before .before))))
     accumulate-requires

@@ -1,4 +1,4 @@
--- 256 entries are enough for 16 states, and 4,096 for 64.
+-- 256 places are enough for 16 states, and 4,096 for 64.
 use native.Mathlib.Omega.{arith}
 use borrow.Author.Needs.{needs}
 use Rattle.definitions.specs.File.{stateCount}
@@ -12,13 +12,15 @@ fill-spec =
     (tie.spec
     (λ c κs. search needs)
     (λ c. search needs)
-    (λ c κs. let start = c .before .before .before .before .before .before .before .before .before .before .before in (start .pre .0, (square-max (stateCount (start .args .file .now)) 16 (omega arith), start .pre .1)))
+    (λ c. search needs)
+    (λ c κs. let start = c .before .before .before .before .before .before .before .before .before .before .before .before in let enough = square-max (stateCount (start .args .file .now)) 16 (omega arith) in (start .pre .0, (enough, enough, start .pre .1)))
     (λ c. search needs)
     (λ c. search needs)
     (λ c. search needs)
     (λ c. search needs)
     (λ c. search needs)
-    (λ c κs. let start = c .before .before .before .before .before .before .before .before .before .before .before in (start .pre .0, (square-max (stateCount (start .args .file .now)) 64 (start .pre .0 .framed .states-max), start .pre .1)))
+    (λ c. search needs)
+    (λ c κs. let start = c .before .before .before .before .before .before .before .before .before .before .before .before in let enough = square-max (stateCount (start .args .file .now)) 64 (start .pre .0 .framed .states-max) in (start .pre .0, (enough, enough, start .pre .1)))
     (λ c. search needs)
     (λ c. search needs)
     (λ c. search needs)

@@ -1,4 +1,4 @@
--- What the file states is read, its chain into the entries that are lent, and the solution of what was read is the file's.
+-- What the file states is read, its rows into the places that are lent, and the solution of what was read is the file's.
 use native.Mathlib.Omega.{arith}
 use Prim.Native.Nat.{ℕ, _*_, _≤_, _<_, _^_}
 use mathlib.Core.Path.{_≡_, sym, _∙_, ap}
@@ -6,10 +6,11 @@ use mathlib.Core.List.{List}
 use lib.ListN.{length, getD, take}
 use lib.Seq.{length-take-le, getD-take}
 use Rattle.definitions.specs.declared.Sizes.{Sizes}
-use Rattle.definitions.specs.Chain.{modelOf, uniformRate}
+use Rattle.definitions.specs.Chain.{Listing, modelOf, uniformRate, listed}
 use Rattle.definitions.specs.Rules.{blockSize}
 use Rattle.laws.specs.ChainLaws.{rate-at}
 use Rattle.laws.specs.ListLaws.{getD-over}
+use Rattle.arrows.specs.RowLaws.{rows-listed}
 use Rattle.moments.specs.Filling.{ReadAs, started}
 use Rattle.moments.specs.FillingLaws.{solvable, block-room, levels-are, startable, blocks-are}
 use borrow.Author.Needs.{needs}
@@ -19,7 +20,7 @@ use Rattle.moments.proofs.fill_with.Tie as tie
 -- E among the sizes that were read
 module _ (d : tie.After-sizes-of) where
   abbrev start : tie.Start
-  start = d .before .before .before .before .before .before .before .before .before
+  start = d .before .before .before .before .before .before .before .before .before .before
 
   rate-read : d .sizes-of .result .rate ≡ uniformRate (modelOf (start .args .file .now))
   rate-read = ap (λ (z : Sizes). z .rate) (d .sizes-of .ensures)
@@ -29,15 +30,16 @@ module _ (d : tie.After-sizes-of) where
       let given = start .pre .0 in
       omega (arith, rate-read, given .limits 0 (omega (arith, given .count-min)) .rate-max, rate-at (modelOf (start .args .file .now)) (getD (start .args .times .now) 0 0))
 
-write-chain-requires : tie.Need-write-chain-requires
-write-chain-requires c κs =
-    let sized = c .before .before in
-    ((start sized .pre .0 .framed, start sized .pre .1 .0), (c .before .before .before .before .row-sums .ensures, (rate-read sized, rate-small sized)))
+list-rows-requires : tie.Need-list-rows-requires
+list-rows-requires c κs =
+    let sized = c .before .before .before .before in
+    let given = start sized .pre in
+    (given .0 .framed, ((given .1 .0, given .1 .1, given .0 .framed .states-max), (c .before .before .before .before .before .before .row-sums .ensures, (rate-read sized, rate-small sized))))
 
 -- what was read is the file's model and the list's X
 module _ (d : tie.After-write-jumps) where
   abbrev sized : tie.After-sizes-of
-  sized = d .before .before .before .before .before .before .before .before
+  sized = d .before .before .before .before .before .before .before .before .before .before .before .before .before
 
   abbrev times : List ℕ
   times = start sized .args .times .now
@@ -48,13 +50,18 @@ module _ (d : tie.After-write-jumps) where
   xs-held : length times ≤ length (d .write-jumps .last .1 .1 .0)
   xs-held = omega (arith, start sized .pre .0 .count-max, d .write-jumps .kept .1 .1 .0)
 
-  read : (ε : ℕ) → ε ≡ modelOf (start sized .args .file .now) .tolerance → ReadAs (modelOf (start sized .args .file .now)) times (sized .sizes-of .result) (start sized .args .chain .now) (d .before .before .before .before .before .write-chain .last .1 .1 .1 .0) (d .before .before .rewards-of .result) xs ε
+  abbrev rows : Listing
+  rows =
+      let last = d .before .before .before .before .before .before .before .before .list-rows .last in
+      listed (last .1 .1 .1 .0) (last .1 .1 .1 .1 .0) (last .1 .1 .1 .1 .1 .0)
+
+  read : (ε : ℕ) → ε ≡ modelOf (start sized .args .file .now) .tolerance → ReadAs (modelOf (start sized .args .file .now)) times (sized .sizes-of .result) rows (d .before .before .rewards-of .result) xs ε
   read ε e =
+      let after = d .before .before .before .before .before .before .before .before .list-rows .ensures in
       record {
         held = record {
           sizes = sized .sizes-of .ensures;
-          room = start sized .pre .1 .0;
-          entries = d .before .before .before .before .before .write-chain .ensures;
+          rows = rows-listed (modelOf (start sized .args .file .now)) _ _ _ _ _ _ (start sized .pre .1 .0) (start sized .pre .1 .1) (after .0) (after .1 .0) (after .1 .1 .0);
           rewards = d .before .before .rewards-of .ensures;
         };
         count = length-take-le (length times) _ xs-held;
@@ -64,39 +71,39 @@ module _ (d : tie.After-write-jumps) where
 
 solve-requires : tie.Need-solve-requires
 solve-requires c κs =
-    let d = c .before .before .before .before .before .before .before .before in
+    let d = c .before .before .before .before .before .before .before .before .before .before in
     let begin = start (sized d) in
-    let r = read d _ (c .before .before .before .before .before .before .tolerance .ensures) in
-    (solvable (begin .args .file .now) (times d) _ _ (begin .pre .0) _ _ _ _ _ _ r, (rw (r .count) (begin .pre .1 .1), rw (r .count) (begin .pre .0 .level-room), block-room (begin .args .file .now) (times d) _ _ (begin .pre .0) _ _ _ _ _ _ r))
+    let r = read d _ (c .before .before .before .before .before .before .before .before .tolerance .ensures) in
+    (solvable (begin .args .file .now) (times d) _ _ (begin .pre .0) _ _ _ _ _ r, (rw (r .count) (begin .pre .1 .2), rw (r .count) (begin .pre .0 .level-room), block-room (begin .args .file .now) (times d) _ _ (begin .pre .0) _ _ _ _ _ r))
 
 -- past the solution
 module _ (S : tie.After-solve) where
   abbrev d : tie.After-write-jumps
-  d = S .before .before .before .before .before .before .before .before .before
+  d = S .before .before .before .before .before .before .before .before .before .before .before
 
   abbrev begin : tie.Start
   begin = start (sized d)
 
   abbrev ε : ℕ
-  ε = S .before .before .before .before .before .before .before .tolerance .result
+  ε = S .before .before .before .before .before .before .before .before .before .tolerance .result
 
-  r : ReadAs (modelOf (begin .args .file .now)) (times d) (sized d .sizes-of .result) (begin .args .chain .now) (d .before .before .before .before .before .write-chain .last .1 .1 .1 .0) (d .before .before .rewards-of .result) (xs d) ε
-  r = read d ε (S .before .before .before .before .before .before .before .tolerance .ensures)
+  r : ReadAs (modelOf (begin .args .file .now)) (times d) (sized d .sizes-of .result) (rows d) (d .before .before .rewards-of .result) (xs d) ε
+  r = read d ε (S .before .before .before .before .before .before .before .before .before .tolerance .ensures)
 
 -- the moments of all times stand in the cells
 put-starts-requires : tie.Need-put-starts-requires
 put-starts-requires c κs =
     let S = c .before .before .before .before .before .before .before in
-    startable (begin S .args .file .now) (times (d S)) _ _ (begin S .pre .0) _ _ _ _ _ _ (r S) (begin S .args .cells .now) (begin S .pre .0 .block-room) _ (S .solve .ensures .1)
+    startable (begin S .args .file .now) (times (d S)) _ _ (begin S .pre .0) _ _ _ _ _ (r S) (begin S .args .cells .now) (begin S .pre .0 .block-room) _ (S .solve .ensures .1)
 
 returns : tie.Need-returns
 returns c =
     let S = c .before .before .before .before .before .before .before .before .before .before in
     let same : sized (d S) .sizes-of .result .block ≡ blockSize (begin S .args .file .now) = ap (λ (z : Sizes). z .block) (sized (d S) .sizes-of .ensures) in (
-      S .solve .ensures .0 ∙ levels-are (begin S .args .file .now) (times (d S)) _ _ (begin S .pre .0) _ _ _ _ _ _ (r S) _,
+      S .solve .ensures .0 ∙ levels-are (begin S .args .file .now) (times (d S)) _ _ (begin S .pre .0) _ _ _ _ _ (r S) _,
       c .before .before .put-starts .ensures
-          ∙ ap (λ (b : ℕ). started (modelOf (begin S .args .file .now)) b (length (times (d S))) (S .solve .last .1 .1 .1 .1 .1 .1 .1 .0)) same
-          ∙ blocks-are (begin S .args .file .now) (times (d S)) _ _ (begin S .pre .0) _ _ _ _ _ _ (r S) (begin S .args .cells .now) (begin S .pre .0 .block-room) _ (S .solve .ensures .1),
+          ∙ ap (λ (b : ℕ). started (modelOf (begin S .args .file .now)) b (length (times (d S))) (S .solve .last .1 .1 .1 .1 .1 .1 .1 .1 .1 .0)) same
+          ∙ blocks-are (begin S .args .file .now) (times (d S)) _ _ (begin S .pre .0) _ _ _ _ _ (r S) (begin S .args .cells .now) (begin S .pre .0 .block-room) _ (S .solve .ensures .1),
     )
 
 pub fill-with-spec : {M : Type 1} → statement M
@@ -104,16 +111,18 @@ fill-with-spec =
     tie.close
     (tie.spec
     (λ c κs. search needs)
-    (λ c κs. let given = c .before .before .before .before .before .before .before .before .pre .0 in ((given .framed, given .limits 0 (omega (arith, given .count-min)) .highest-max), c .before .row-sums .ensures))
-    write-chain-requires
+    (λ c κs. let given = c .before .before .before .before .before .before .before .before .before .pre .0 in ((given .framed, given .limits 0 (omega (arith, given .count-min)) .highest-max), c .before .row-sums .ensures))
+    (λ c. search needs)
+    list-rows-requires
     (λ c κs. search needs)
     (λ c. search needs)
-    (λ c κs. let given = c .before .before .before .before .before .before .before in (rate-small given, start given .pre .0 .count-max))
-    (λ c κs. search needs)
-    (λ c. xs-held (c .before .before .before .before))
-    (λ c. sym (length-take-le _ _ (xs-held (c .before .before .before .before .before))))
+    (λ c κs. let given = c .before .before .before .before .before .before .before .before .before .before .before .before in (rate-small given, start given .pre .0 .count-max))
+    (λ c κs. omega (arith, start (sized (c .before)) .pre .0 .framed))
+    (λ c. xs-held (c .before .before .before .before .before .before))
+    (λ c. sym (length-take-le _ _ (xs-held (c .before .before .before .before .before .before .before))))
     solve-requires
     put-starts-requires
+    (λ c. search needs)
     (λ c. search needs)
     (λ c. search needs)
     (λ c. search needs)

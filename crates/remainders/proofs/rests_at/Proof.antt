@@ -7,7 +7,7 @@ use borrow.Author.Needs.{needs}
 use lib.ListN.{getD}
 use Rattle.definitions.specs.declared.Division.{Division}
 use Rattle.definitions.specs.Division.{division}
-use Rattle.definitions.specs.Chain.{Chain, arrays}
+use Rattle.definitions.specs.Chain.{Chain, listed, arrays}
 use Rattle.definitions.specs.Vectors.{rowTotal, rowMean, rewardProduct, rewardShare, mixed, U, vector}
 use Rattle.definitions.specs.Remainders.{meanOf, meanDividend, shareOf, shareDividend, mixDividend, restsAt}
 use Rattle.laws.specs.Rounding.{quotient, remainder}
@@ -26,16 +26,16 @@ use Rattle.remainders.proofs.rests_at.Tie as tie
 -- the two vectors that the divisions read, U(n−1,r) and U(n,r−1)
 module _ (d : tie.After-next-table) where
   abbrev start : tie.Start
-  start = d .before .before .before .before .before
+  start = d .before .before .before .before .before .before
 
   abbrev ch : Chain
-  ch = arrays (start .args .sizes) (start .args .chain .now) (start .args .rewards .now)
+  ch = arrays (start .args .sizes) (listed (start .args .targets .now) (start .args .rates .now) (start .args .counts .now)) (start .args .rewards .now)
 
   abbrev before : List ℕ
-  before = getD (d .before .before .table-at .last .1 .1 .1 .1 .0) (start .args .r) []
+  before = getD (d .before .before .table-at .last .1 .1 .1 .1 .1 .1 .0) (start .args .r) []
 
   abbrev same : List ℕ
-  same = getD (d .next-table .last .1 .1 .1 .1 .0) (start .args .r - 1) []
+  same = getD (d .next-table .last .1 .1 .1 .1 .1 .1 .0) (start .args .r - 1) []
 
   is-before : before ≡ vector ch (start .args .n - 1) (start .args .r)
   is-before =
@@ -48,7 +48,7 @@ module _ (d : tie.After-next-table) where
       ∙ table-row ch (start .args .sizes .highest) (start .args .n) (omega arith) (start .args .r - 1) (omega arith)
 
   -- a step could be made of them
-  step-ready : StepReady (start .args .sizes) (start .args .chain .now) (start .args .rewards .now) (start .args .n) (start .args .r) before same
+  step-ready : StepReady (start .args .sizes) (listed (start .args .targets .now) (start .args .rates .now) (start .args .counts .now)) (start .args .rewards .now) (start .args .n) (start .args .r) before same
   step-ready =
       record {
         ready = start .pre .ready;
@@ -71,7 +71,7 @@ module _ (d : tie.After-next-table) where
 table-at-requires : tie.Need-table-at-requires
 unfolding blank zeros
 table-at-requires c κs =
-    let given = c .before .before .pre in
+    let given = c .before .before .before .pre in
     (given .ready, given .highest-max, omega arith, refl)
 
 row-mean-requires : tie.Need-row-mean-requires

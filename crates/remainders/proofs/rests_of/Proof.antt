@@ -5,11 +5,11 @@ use native.Mathlib.Omega.{arith}
 use borrow.Author.Needs.{needs}
 use Rattle.definitions.specs.declared.Sizes.{Sizes}
 use Rattle.definitions.specs.File.{stateCount}
-use Rattle.definitions.specs.Chain.{Model, modelOf, chainOf, uniformRate}
+use Rattle.definitions.specs.Chain.{Model, Listing, modelOf, chainOf, uniformRate, listed}
 use Rattle.laws.specs.ChainLaws.{square-max}
-use Rattle.laws.specs.ArrayLaws.{zeros}
 use Rattle.laws.specs.MomentLaws.{level-range}
 use Rattle.laws.specs.RemainderLaws.{rests-same}
+use Rattle.arrows.specs.RowLaws.{rows-listed}
 use Rattle.vectors.specs.ModelLaws.{Held, held-ready, held-same}
 use Rattle.remainders.proofs.rests_of.Statement.{statement}
 use Rattle.remainders.proofs.rests_of.Tie as tie
@@ -18,31 +18,35 @@ use Rattle.remainders.proofs.rests_of.Tie as tie
 rate-is : (start : tie.Start) → start .args .sizes .rate ≡ uniformRate (modelOf (start .args .file .now))
 rate-is start = ap (λ (z : Sizes). z .rate) (start .pre .1 .1)
 
--- the chain of at most 64 states has its room
+-- the rows of at most 64 states have their room
 enough : (start : tie.Start) → stateCount (start .args .file .now) * stateCount (start .args .file .now) ≤ 64 * 64
 enough start = square-max (stateCount (start .args .file .now)) 64 (start .pre .0 .0 .limits .states-max)
 
-write-chain-requires : tie.Need-write-chain-requires
-write-chain-requires c κs =
-    let start = c .before .before in
-    ((start .pre .0 .0 .framed, enough start), (start .pre .1 .0, (rate-is start, omega (arith, rate-is start, start .pre .0 .0 .limits .rate-max))))
+list-rows-requires : tie.Need-list-rows-requires
+list-rows-requires c κs =
+    let start = c .before .before .before .before in
+    (start .pre .0 .0 .framed, ((enough start, enough start, start .pre .0 .0 .limits .states-max), (start .pre .1 .0, (rate-is start, omega (arith, rate-is start, start .pre .0 .0 .limits .rate-max)))))
 
 -- the arrays that were read hold the file's chain
 module _ (c : tie.After-rewards) where
   abbrev start : tie.Start
-  start = c .before .before .before .before .before .before .before
+  start = c .before .before .before .before .before .before .before .before .before .before .before .before .before
 
   abbrev m : Model
   m = modelOf (start .args .file .now)
 
-  read : Held m (start .args .sizes) (zeros 4096) (c .before .before .before .before .write-chain .last .1 .1 .1 .0) (c .before .before .rewards-of .result)
-  unfolding zeros
+  abbrev rows : Listing
+  rows =
+      let last = c .before .before .before .before .before .before .before .before .list-rows .last in
+      listed (last .1 .1 .1 .0) (last .1 .1 .1 .1 .0) (last .1 .1 .1 .1 .1 .0)
+
+  read : Held m (start .args .sizes) rows (c .before .before .before .before .rewards-of .result)
   read =
+      let after = c .before .before .before .before .before .before .before .before .list-rows .ensures in
       record {
         sizes = start .pre .1 .1;
-        room = enough start;
-        entries = c .before .before .before .before .write-chain .ensures;
-        rewards = c .before .before .rewards-of .ensures;
+        rows = rows-listed m _ _ _ _ _ _ (enough start) (enough start) (after .0) (after .1 .0) (after .1 .1 .0);
+        rewards = c .before .before .before .before .rewards-of .ensures;
       }
 
 rests-at-requires : tie.Need-rests-at-requires
@@ -75,8 +79,11 @@ rests-of-spec =
     tie.close
     (tie.spec
     (λ c. search needs)
-    write-chain-requires
+    (λ c. search needs)
+    (λ c. search needs)
+    list-rows-requires
     (λ c κs. search needs)
+    (λ c. search needs)
     (λ c. search needs)
     (λ c. omega (arith, start c .pre .0 .1 .state-min))
     rests-at-requires

@@ -1,4 +1,4 @@
--- `vectors::first_table` meets its contract. The invariant: the rows below r are U(0,0), U(0,1), …, for any c. Assumes nothing.
+-- `vectors::first_table` meets its contract. The invariant: the rows below r are U(0,0), U(0,1), …, for any chain. Assumes nothing.
 use mathlib.Core.List.{List, []}
 use mathlib.Core.Path.{_≡_, ap, _∙_}
 use Prim.Native.Nat.{ℕ, _+_, _-_, _≤_}
@@ -6,7 +6,7 @@ use native.Mathlib.Omega.{arith}
 use denote.Ref.{now}
 use lib.ListN.{getD}
 use Rattle.definitions.specs.Sums.{over}
-use Rattle.definitions.specs.Chain.{Chain, padded, arrays}
+use Rattle.definitions.specs.Chain.{Chain, Listing, listed, padded, arrays}
 use Rattle.definitions.specs.Vectors.{rewardShare, vector}
 use Rattle.vectors.specs.ReadyLaws.{no-chain}
 use Rattle.vectors.specs.StepLaws.{vector-ticks, vector-first}
@@ -17,29 +17,29 @@ use Rattle.vectors.proofs.first_table.Tie as tie
 
 abbrev Inv-loop : tie.InvT-loop
 Inv-loop sizes rewards table₀ highest r₀ r-end table r =
-    (1 ≤ r) × (r ≤ highest + 1) × ((c : List ℕ) → table ≡ over r (vector (arrays sizes c rewards) 0) blank)
+    (1 ≤ r) × (r ≤ highest + 1) × ((a : Listing) → table ≡ over r (vector (arrays sizes a rewards) 0) blank)
 
 abbrev μ-loop : tie.MeasureT-loop
 μ-loop sizes rewards table₀ highest r₀ r-end table r = highest + 1 - r
 
 -- the rewards with any chain
-abbrev held : tie.Start Inv-loop μ-loop → List ℕ → Chain
-held start c = arrays (start .args .sizes) c (now (start .args .rewards))
+abbrev held : tie.Start Inv-loop μ-loop → Listing → Chain
+held start a = arrays (start .args .sizes) a (now (start .args .rewards))
 
 -- the row before row r
-row-before : (c : tie.In-loop Inv-loop μ-loop) (c' : List ℕ) →
-    let turn = c .before .loop in getD (turn .table) (turn .r - 1) [] ≡ vector (held (c .before .before .before) c') 0 (turn .r - 1)
-row-before c c' =
+row-before : (c : tie.In-loop Inv-loop μ-loop) (a : Listing) →
+    let turn = c .before .loop in getD (turn .table) (turn .r - 1) [] ≡ vector (held (c .before .before .before) a) 0 (turn .r - 1)
+row-before c a =
     let turn = c .before .loop in
-    row-filled (held (c .before .before .before) c') 0 blank (turn .r) (turn .r - 1) (turn .table) (turn .inv .2 c') (omega arith)
+    row-filled (held (c .before .before .before) a) 0 blank (turn .r) (turn .r - 1) (turn .table) (turn .inv .2 a) (omega arith)
 
 loop-holds : tie.Need-loop-holds Inv-loop μ-loop
-loop-holds c = (omega arith, omega arith, λ c'. table-start (held (c .before) c') 0 _ (omega arith) (c .before .pre .2) (c .ones .ensures))
+loop-holds c = (omega arith, omega arith, λ a. table-start (held (c .before) a) 0 _ (omega arith) (c .before .pre .2) (c .ones .ensures))
 
 shares-requires : tie.Need-shares-requires Inv-loop μ-loop
 shares-requires c κs =
     let start = c .before .before .before .before in
-    (start .pre .0, vector-ticks (held start []) (omega arith) 0 (c .before .before .loop .r - 1) (row-before (c .before) []) (no-chain (start .pre .0)))
+    (start .pre .0, vector-ticks (held start (listed [] [] [])) (omega arith) 0 (c .before .before .loop .r - 1) (row-before (c .before) (listed [] [] [])) (no-chain (start .pre .0)))
 
 loop-again : tie.Need-loop-again Inv-loop μ-loop
 loop-again c =
@@ -47,19 +47,19 @@ loop-again c =
     let turn = c .before .before .before .loop in (
       omega arith,
       omega arith,
-      λ c'.
-          let ch = held start c' in
-          table-more ch 0 blank (turn .r) (turn .table) (blank-zeros 0 .rows) (omega arith) (turn .inv .2 c')
-          (c .shares .ensures c'
-          ∙ ap (λ (v : List ℕ). padded (ch .states) (λ i. rewardShare ch (getD v i 0) i)) (row-before (c .before .before) c')
+      λ a.
+          let ch = held start a in
+          table-more ch 0 blank (turn .r) (turn .table) (blank-zeros 0 .rows) (omega arith) (turn .inv .2 a)
+          (c .shares .ensures a
+          ∙ ap (λ (v : List ℕ). padded (ch .states) (λ i. rewardShare ch (getD v i 0) i)) (row-before (c .before .before) a)
           ∙ vector-first ch (omega arith) (turn .r) (omega arith)),
     )
 
 returns : tie.Need-returns Inv-loop μ-loop
-returns c = λ c'.
+returns c = λ a.
     let start = c .before .before .before in
     let turn = c .before .loop in
-    table-filled (held start c') 0 blank (start .args .sizes .highest) (turn .r) (turn .table) (blank-zeros (start .args .sizes .highest)) (omega arith) (turn .inv .2 c') (omega arith)
+    table-filled (held start a) 0 blank (start .args .sizes .highest) (turn .r) (turn .table) (blank-zeros (start .args .sizes .highest)) (omega arith) (turn .inv .2 a) (omega arith)
 
 pub first-table-spec : {M : Type 1} → statement M
 first-table-spec =

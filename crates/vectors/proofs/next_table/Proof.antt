@@ -7,7 +7,7 @@ use native.Mathlib.Omega.{arith}
 use denote.Ref.{now}
 use lib.ListN.{getD}
 use Rattle.definitions.specs.Sums.{over}
-use Rattle.definitions.specs.Chain.{Chain, padded, arrays}
+use Rattle.definitions.specs.Chain.{Chain, padded, listed, arrays}
 use Rattle.definitions.specs.Vectors.{nextEntry, vector}
 use Rattle.laws.specs.ArrayLaws.{entryOf}
 use Rattle.vectors.specs.StepLaws.{vector-ticks, vector-next}
@@ -17,24 +17,24 @@ use Rattle.vectors.proofs.next_table.Statement.{statement}
 use Rattle.vectors.proofs.next_table.Tie as tie
 
 abbrev Inv-loop : tie.InvT-loop
-Inv-loop sizes chain rewards n table₀ highest r₀ r-end table r =
-    (1 ≤ r) × (r ≤ highest + 1) × (table ≡ over r (vector (arrays sizes chain rewards) n) (tableOf (arrays sizes chain rewards) highest (n - 1)))
+Inv-loop sizes targets rates counts rewards n table₀ highest r₀ r-end table r =
+    (1 ≤ r) × (r ≤ highest + 1) × (table ≡ over r (vector (arrays sizes (listed targets rates counts) rewards) n) (tableOf (arrays sizes (listed targets rates counts) rewards) highest (n - 1)))
 
 abbrev μ-loop : tie.MeasureT-loop
-μ-loop sizes chain rewards n table₀ highest r₀ r-end table r = highest + 1 - r
+μ-loop sizes targets rates counts rewards n table₀ highest r₀ r-end table r = highest + 1 - r
 
 -- the chain that the arrays hold
 abbrev held : tie.Start Inv-loop μ-loop → Chain
-held start = arrays (start .args .sizes) (now (start .args .chain)) (now (start .args .rewards))
+held start = arrays (start .args .sizes) (listed (now (start .args .targets)) (now (start .args .rates)) (now (start .args .counts))) (now (start .args .rewards))
 
 loop-holds : tie.Need-loop-holds Inv-loop μ-loop
 loop-holds c =
-    let start = c .before in
+    let start = c .before .before in
     (omega arith, omega arith, start .pre .1 ∙ rows-start (held start) (start .args .sizes .highest) (start .args .n) (start .args .n - 1) (omega arith) (omega arith))
 
 module _ (c : tie.In-loop Inv-loop μ-loop) where
   abbrev start : tie.Start Inv-loop μ-loop
-  start = c .before .before .before
+  start = c .before .before .before .before
 
   abbrev r : ℕ
   r = c .before .loop .r
@@ -79,7 +79,7 @@ loop-again c =
 
 returns : tie.Need-returns Inv-loop μ-loop
 returns c =
-    let begin = c .before .before .before in
+    let begin = c .before .before .before .before in
     let R = begin .args .sizes .highest in
     let n = begin .args .n in
     table-filled (held begin) n _ R (c .before .loop .r) (c .before .loop .table) (table-zeros (held begin) R (n - 1) (omega arith)) (omega arith) (c .before .loop .inv .2) (omega arith)

@@ -4,7 +4,7 @@ use Prim.Native.Nat.{ℕ, _-_, _≤_}
 use native.Mathlib.Omega.{arith}
 use denote.Ref.{now}
 use Rattle.definitions.specs.Sums.{over}
-use Rattle.definitions.specs.Chain.{arrays}
+use Rattle.definitions.specs.Chain.{listed, arrays}
 use Rattle.definitions.specs.Vectors.{rowMean, rewardShare, mix, nextEntry}
 use Rattle.laws.specs.Rounding.{quotient}
 use Rattle.laws.specs.ListLaws.{over-none, over-store}
@@ -14,35 +14,35 @@ use Rattle.vectors.proofs.step.Statement.{statement}
 use Rattle.vectors.proofs.step.Tie as tie
 
 abbrev Inv-loop : tie.InvT-loop
-Inv-loop sizes chain rewards n r before same states next₀ i₀ next i =
-    (i ≤ states) × (next ≡ over i (nextEntry (arrays sizes chain rewards) n r (entryOf before) (entryOf same)) (zeros 64))
+Inv-loop sizes targets rates counts rewards n r before same states next₀ i₀ next i =
+    (i ≤ states) × (next ≡ over i (nextEntry (arrays sizes (listed targets rates counts) rewards) n r (entryOf before) (entryOf same)) (zeros 64))
 
 abbrev μ-loop : tie.MeasureT-loop
-μ-loop sizes chain rewards n r before same states next₀ i₀ next i = states - i
+μ-loop sizes targets rates counts rewards n r before same states next₀ i₀ next i = states - i
 
 -- U(n,r) of the arguments
 abbrev u : tie.Start Inv-loop μ-loop → ℕ → ℕ
 u start =
     let args = start .args in
-    nextEntry (arrays (args .sizes) (now (args .chain)) (now (args .rewards))) (args .n) (args .r) (entryOf (args .t6)) (entryOf (args .t7))
+    nextEntry (arrays (args .sizes) (listed (now (args .targets)) (now (args .rates)) (now (args .counts))) (now (args .rewards))) (args .n) (args .r) (entryOf (args .t8)) (entryOf (args .t9))
 
 loop-holds : tie.Need-loop-holds Inv-loop μ-loop
 unfolding zeros
-loop-holds c = (omega arith, sym (over-none (u (c .before)) (zeros 64)))
+loop-holds c = (omega arith, sym (over-none (u (c .before .before)) (zeros 64)))
 
 row-mean-requires : tie.Need-row-mean-requires Inv-loop μ-loop
-row-mean-requires c κs = row-ready (c .before .before .before .before .pre) (c .before .before .loop .i) (omega arith)
+row-mean-requires c κs = row-ready (c .before .before .before .before .before .pre) (c .before .before .loop .i) (omega arith)
 
 reward-share-requires : tie.Need-reward-share-requires Inv-loop μ-loop
 reward-share-requires c κs =
-    let given = c .before .before .before .before .before .before .pre in
+    let given = c .before .before .before .before .before .before .before .pre in
     let i = c .before .before .before .before .loop .i in
     omega (arith, given .ready .rewards .reward i (omega arith), given .same-ticks .below i (omega arith))
 
 mix-requires : tie.Need-mix-requires Inv-loop μ-loop
 unfolding rowMean rewardShare
 mix-requires c κs =
-    let start = c .before .before .before .before .before .before .before in
+    let start = c .before .before .before .before .before .before .before .before in
     let mean = c .before .before .row-mean in
     mix-ready (start .pre) (c .before .before .before .before .before .loop .i) (omega arith) (mean .result .quotient) (c .reward-share .result .quotient)
     (ap quotient (mean .ensures (now (start .args .rewards)))) (ap quotient (c .reward-share .ensures))
@@ -50,7 +50,7 @@ mix-requires c κs =
 loop-again : tie.Need-loop-again Inv-loop μ-loop
 unfolding rowMean rewardShare mix nextEntry
 loop-again c =
-    let start = c .before .before .before .before .before .before .before .before in
+    let start = c .before .before .before .before .before .before .before .before .before in
     let turn = c .before .before .before .before .before .before .loop in
     let args = start .args in
     let mean = ap quotient (c .before .before .before .row-mean .ensures (now (args .rewards))) in
@@ -62,7 +62,7 @@ loop-again c =
 
 returns : tie.Need-returns Inv-loop μ-loop
 returns c =
-    let start = c .before .before .before in
+    let start = c .before .before .before .before in
     let turn = c .before .loop in
     let all : turn .i ≡ start .args .sizes .states = omega arith in
     rw all at (turn .inv .1) ∙ over-padded _ (u start) (omega arith)

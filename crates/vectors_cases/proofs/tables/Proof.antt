@@ -3,23 +3,23 @@ use mathlib.Core.Path.{_≡_, refl}
 use Prim.Native.Nat.{_+_, _-_, _≤_}
 use native.Mathlib.Omega.{arith}
 use borrow.Author.Needs.{needs}
-use Rattle.definitions.specs.Chain.{arrays}
+use Rattle.definitions.specs.Chain.{listed, arrays}
 use Rattle.laws.specs.ArrayLaws.{zeros}
 use Rattle.vectors.specs.Table.{blank, tableOf}
 use Rattle.vectors_cases.proofs.tables.Statement.{statement}
 use Rattle.vectors_cases.proofs.tables.Tie as tie
 
 abbrev Inv-loop : tie.InvT-loop
-Inv-loop sizes chain rewards last current₀ n₀ n-end current n =
-    (1 ≤ n) × (n ≤ last + 1) × (current ≡ tableOf (arrays sizes chain rewards) (sizes .highest) (n - 1))
+Inv-loop sizes targets rates counts rewards last current₀ n₀ n-end current n =
+    (1 ≤ n) × (n ≤ last + 1) × (current ≡ tableOf (arrays sizes (listed targets rates counts) rewards) (sizes .highest) (n - 1))
 
 abbrev μ-loop : tie.MeasureT-loop
-μ-loop sizes chain rewards last current₀ n₀ n-end current n = last + 1 - n
+μ-loop sizes targets rates counts rewards last current₀ n₀ n-end current n = last + 1 - n
 
 first-table-requires : tie.Need-first-table-requires Inv-loop μ-loop
 unfolding blank zeros
 first-table-requires c κs =
-    let start = c .before .before in
+    let start = c .before .before .before in
     (start .pre .0 .rewards, start .pre .1, refl)
 
 loop-again : tie.Need-loop-again Inv-loop μ-loop
@@ -37,8 +37,8 @@ tables-spec =
     first-table-requires
     (λ c κs. search needs)
     (λ c. omega arith)
-    (λ c. (omega arith, omega arith, c .before .before .first-table .ensures (c .before .before .before .before .before .args .chain .now)))
-    (λ c κs. ((c .before .before .before .before .before .before .before .before .pre .0, omega arith, omega arith, omega arith), c .before .before .loop .inv .2))
+    (λ c. (omega arith, omega arith, c .before .before .first-table .ensures (let args = c .before .before .before .before .before .before .args in listed (args .targets .now) (args .rates .now) (args .counts .now))))
+    (λ c κs. ((c .before .before .before .before .before .before .before .before .before .pre .0, omega arith, omega arith, omega arith), c .before .before .loop .inv .2))
     (λ c κs. search needs)
     (λ c. omega arith)
     (λ c. omega arith)

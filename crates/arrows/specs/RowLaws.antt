@@ -1,0 +1,167 @@
+-- Rows that are stored in one list are read from it again, and with all of them stored the arrays hold the model's rows. Assumes nothing.
+use Prim.Native.Nat.{ℕ, zero, suc, _+_, _*_, _-_, _≤_, _<_}
+use native.Mathlib.Nat.{mul-le-mul-right}
+use native.Mathlib.Numerals.{add-one}
+use native.Mathlib.Decide.{ℕ-discrete}
+use native.Mathlib.Omega.{arith}
+use mathlib.Core.Path.{_≡_, refl, sym, _∙_, ap, ap₂}
+use mathlib.Core.Bool.{Bool, true, false, _||_}
+use mathlib.Core.List.{List, [], _∷_, map}
+use lib.Dec.{eqb, ltb}
+use lib.ListN.{length, getD, set, take, drop, length-set, length-drop}
+use lib.Seq.{sets, length-sets, length-take-le, getD-take, getD-drop, getD-set-same, getD-set-other, ext-getD}
+use Rattle.definitions.specs.Sums.{over, pick}
+use Rattle.definitions.specs.Chain.{Model, Listing, rowSum, uniformRate, c, listed}
+use Rattle.definitions.specs.Arrows.{falling, isAdded, addedStates, statesIn, ListsRow}
+use Rattle.laws.specs.Rounding.{place-below}
+use Rattle.laws.specs.ListLaws.{getD-over}
+use Rattle.laws.specs.ArrowLaws.{falling-takes, falling-leaves, length-falling, row-listed, Lists}
+use Rattle.arrows.specs.Rows.{rowsStored, DownTo}
+
+-- what is read of the file's row is the entry of c, and is_added tells whether the row's mean adds its state
+pub entry-of-row : (m : Model) (i j diagonal : ℕ) → diagonal ≡ uniformRate m - rowSum m i → pick (eqb j i) diagonal (m .transition i j) ≡ c m i j
+unfolding c
+entry-of-row m i j diagonal e = rw e refl
+
+pub added-by : (m : Model) (i j diagonal : ℕ) → (eqb j i || ltb 0 (pick (eqb j i) diagonal (m .transition i j))) ≡ isAdded m i j
+added-by m i j diagonal = by (eqb j i)
+  where
+    by : (b : Bool) → (b || ltb 0 (pick b diagonal (m .transition i j))) ≡ (b || ltb 0 (m .transition i j))
+    by true = refl
+    by false = refl
+
+-- a row is listed from its highest state down: none at first, then one state after another is listed or left out
+module _ (m : Model) (i first : ℕ) (targets₀ rates₀ : List ℕ) where
+  pub none-listed : DownTo m i first (m .states) 0 targets₀ rates₀ targets₀ rates₀
+  unfolding addedStates
+  none-listed =
+      let here : first + 0 ≡ first = omega arith in
+      record { count = omega arith; in-targets = rw here refl; in-rates = rw here refl; same-targets = refl; same-rates = refl }
+
+  -- down to state 0 it is the whole row
+  pub all-listed : (k : ℕ) (targets rates : List ℕ) → DownTo m i first 0 k targets₀ rates₀ targets rates → (k ≡ length (addedStates m i)) × (targets ≡ sets targets₀ first (addedStates m i)) × (rates ≡ sets rates₀ first (map (c m i) (addedStates m i)))
+  unfolding falling
+  all-listed k targets rates row = (omega (arith, row .count), row .in-targets, row .in-rates)
+
+  module _ (j k : ℕ) (targets rates : List ℕ) (before : DownTo m i first j k targets₀ rates₀ targets rates) (some : 0 < j) where
+    pub left-out : isAdded m i (j - 1) ≡ false → DownTo m i first (j - 1) k targets₀ rates₀ targets rates
+    left-out skipped =
+        let same = falling-leaves (isAdded m i) j some skipped in
+        record {
+          count = rw same at (before .count);
+          in-targets = rw same at (before .in-targets);
+          in-rates = rw same at (before .in-rates);
+          same-targets = before .same-targets;
+          same-rates = before .same-rates;
+        }
+
+    module _ (taken : isAdded m i (j - 1) ≡ true) where
+      -- there is a place for it
+      pub place-left : k < length (addedStates m i)
+      place-left = omega (arith, before .count, ap length (falling-takes (isAdded m i) j some taken))
+
+      pub listed-next : (x : ℕ) → x ≡ c m i (j - 1) → DownTo m i first (j - 1) (k + 1) targets₀ rates₀ (set targets (first + k) (j - 1)) (set rates (first + k) x)
+      listed-next x e =
+          let next : first + (k + 1) ≡ suc (first + k) = omega arith in
+          record {
+            count = omega (arith, before .count, ap length (falling-takes (isAdded m i) j some taken));
+            in-targets = rw next (rw (falling-takes (isAdded m i) j some taken) at (before .in-targets));
+            in-rates = rw (next, e) (rw (falling-takes (isAdded m i) j some taken) at (before .in-rates));
+            same-targets = length-set targets (first + k) (j - 1) ∙ before .same-targets;
+            same-rates = length-set rates (first + k) x ∙ before .same-rates;
+          }
+
+-- a run of stores: what stands before it stays, and its own entries stand in it
+getD-before : (v l : List ℕ) (p q : ℕ) → q < p → getD (sets l p v) q 0 ≡ getD l q 0
+getD-before [] l p q h = refl
+getD-before (x ∷ v) l p q h = getD-before v (set l p x) (suc p) q (omega arith) ∙ getD-set-other l p q x 0 (λ e. omega (arith, e))
+
+getD-inside : (v l : List ℕ) (p k : ℕ) → p + length v ≤ length l → k < length v → getD (sets l p v) (p + k) 0 ≡ getD v k 0
+getD-inside [] l p k room h = absurd (omega arith)
+getD-inside (x ∷ v) l p zero room h =
+    ap (λ (q : ℕ). getD (sets (set l p x) (suc p) v) q 0) (omega arith)
+    ∙ getD-before v (set l p x) (suc p) p (omega arith)
+    ∙ getD-set-same l p x 0 (omega arith)
+getD-inside (x ∷ v) l p (suc k) room h =
+    ap (λ (q : ℕ). getD (sets (set l p x) (suc p) v) q 0) (omega arith)
+    ∙ getD-inside v (set l p x) (suc p) k (omega (arith, room, length-set l p x)) (omega arith)
+
+module _ (row : ℕ → List ℕ) (M : ℕ) (fits : (i : ℕ) → length (row i) ≤ M) (l : List ℕ) where
+  pub none-stored : l ≡ rowsStored row M 0 l
+  unfolding rowsStored
+  none-stored = refl
+
+  pub length-stored : (n : ℕ) → length (rowsStored row M n l) ≡ length l
+  unfolding rowsStored
+  length-stored zero = refl
+  length-stored (suc n) = length-sets (rowsStored row M n l) (n * M) (row n) ∙ length-stored n
+
+  -- place k of row i
+  pub getD-stored : (n i k : ℕ) → n * M ≤ length l → i < n → k < length (row i) → getD (rowsStored row M n l) (i * M + k) 0 ≡ getD (row i) k 0
+  unfolding rowsStored
+  getD-stored zero i k room h b = absurd (omega arith)
+  getD-stored (suc n) i k room h b =
+      elim (ℕ-discrete i n) [
+        | yes e ↦ rw e (getD-inside (row n) (rowsStored row M n l) (n * M) k (omega (arith, room, length-stored n, fits n)) (rw e at b))
+        | no ne ↦
+            getD-before (row n) (rowsStored row M n l) (n * M) (i * M + k) (omega (arith, b, fits i, mul-le-mul-right M (earlier ne)))
+            ∙ getD-stored n i k (omega (arith, room)) (omega arith) b
+      ]
+    where
+      earlier : (i ≡ n → ⊥) → suc i ≤ n
+      earlier ne = omega arith
+
+  -- one row more, as code counts
+  pub stored-more : (n : ℕ) → sets (rowsStored row M n l) (n * M) (row n) ≡ rowsStored row M (n + 1) l
+  unfolding rowsStored
+  stored-more n = rw add-one refl
+
+module _ (m : Model) where
+  pub added-fits : (i : ℕ) → length (addedStates m i) ≤ m .states
+  unfolding addedStates
+  added-fits i = length-falling (isAdded m i) (m .states)
+
+  abbrev entries : ℕ → List ℕ
+  entries i = map (c m i) (addedStates m i)
+
+  length-map : (f : ℕ → ℕ) (l : List ℕ) → length (map f l) ≡ length l
+  length-map f [] = refl
+  length-map f (x ∷ l) = ap suc (length-map f l)
+
+  getD-map : (f : ℕ → ℕ) (l : List ℕ) (k : ℕ) → k < length l → getD (map f l) k 0 ≡ f (getD l k 0)
+  getD-map f [] k h = absurd (omega arith)
+  getD-map f (x ∷ l) zero h = refl
+  getD-map f (x ∷ l) (suc k) h = getD-map f l k (omega arith)
+
+  pub entries-fit : (i : ℕ) → length (map (c m i) (addedStates m i)) ≤ m .states
+  entries-fit i = omega (arith, length-map (c m i) (addedStates m i), added-fits i)
+
+  -- with every row stored, the arrays hold the rows
+  pub rows-listed : (targets rates counts t r k : List ℕ) → m .states * m .states ≤ length targets → m .states * m .states ≤ length rates → t ≡ rowsStored (addedStates m) (m .states) (m .states) targets → r ≡ rowsStored (λ i. map (c m i) (addedStates m i)) (m .states) (m .states) rates → k ≡ over (m .states) (λ i. length (addedStates m i)) counts → Lists m (listed t r k)
+  rows-listed targets rates counts t r k troom rroom et er ek =
+      record {
+        target-room = omega (arith, troom, ap length et, length-stored (addedStates m) (m .states) added-fits targets (m .states));
+        rate-room = omega (arith, rroom, ap length er, length-stored entries (m .states) entries-fit rates (m .states));
+        count = λ i l. ap (λ (x : List ℕ). getD x i 0) ek ∙ getD-over 0 (m .states) (λ i. length (addedStates m i)) counts i l;
+        target = λ i p l b. ap (λ (x : List ℕ). getD x (i * m .states + p) 0) et ∙ getD-stored (addedStates m) (m .states) added-fits targets (m .states) i p troom l b;
+        rate =
+            λ i p l b.
+            ap (λ (x : List ℕ). getD x (i * m .states + p) 0) er
+            ∙ getD-stored entries (m .states) entries-fit rates (m .states) i p rroom l (omega (arith, b, length-map (c m i) (addedStates m i)))
+            ∙ getD-map (c m i) (addedStates m i) p b;
+      }
+
+  -- and each of them is shown to be what document 02 asks for
+  pub row-shown : (a : Listing) → Lists m a → (i : ℕ) → i < m .states → ListsRow m i (statesIn (m .states) a i)
+  row-shown a rows i l = rw same (row-listed m i l)
+    where
+      whole : i * m .states + m .states ≤ length (a .targets)
+      whole = omega (arith, rows .target-room, mul-le-mul-right (m .states) l)
+
+      count : length (statesIn (m .states) a i) ≡ length (addedStates m i)
+      count = length-take-le (getD (a .counts) i 0) (drop (i * m .states) (a .targets)) (omega (arith, rows .count i l, added-fits i, length-drop (i * m .states) (a .targets), whole)) ∙ rows .count i l
+
+      same : statesIn (m .states) a i ≡ addedStates m i
+      same =
+          ext-getD 0 (statesIn (m .states) a i) (addedStates m i) count
+          (λ k b. getD-take (getD (a .counts) i 0) (drop (i * m .states) (a .targets)) k 0 (omega (arith, b, count, rows .count i l)) ∙ getD-drop (i * m .states) (a .targets) k 0 ∙ rows .target i k l (omega (arith, b, count)))

@@ -1,0 +1,32 @@
+-- The rows of a file in one list, M places for each, and what is asked where a row is listed. Assumes nothing: these are definitions.
+use Prim.Native.Nat.{ℕ, zero, suc, _+_, _*_, _-_, _≤_, _<_, _^_}
+use mathlib.Core.Path.{_≡_}
+use mathlib.Core.List.{List, map}
+use lib.ListN.{length}
+use lib.Seq.{sets}
+use Rattle.definitions.specs.File.{stateCount}
+use Rattle.definitions.specs.Chain.{Model, modelOf, rowSum, uniformRate, c}
+use Rattle.definitions.specs.Arrows.{falling, isAdded, addedStates}
+use Rattle.laws.specs.Acceptance.{Framed}
+
+-- the list l with the first n rows stored in it, row i from place i × M on
+unfoldable pub rowsStored : (ℕ → List ℕ) → ℕ → ℕ → List ℕ → List ℕ
+rowsStored row M zero l = l
+rowsStored row M (suc i) l = sets (rowsStored row M i l) (i * M) (row i)
+
+-- row i of a framed file, with what stands on its diagonal, and as many places as are lent
+pub record RowAsked (s : List ℕ) (i diagonal targets rates : ℕ) : Type 0 where
+  pub framed : Framed s
+  pub state : i < stateCount s
+  pub stays : diagonal ≡ uniformRate (modelOf s) - rowSum (modelOf s) i
+  pub stays-max : diagonal < 2 ^ 32
+  pub target-room : stateCount s * stateCount s ≤ targets
+  pub rate-room : stateCount s * stateCount s ≤ rates
+
+-- row i listed down to state j, in k places from the first on: with the states below j in the places after them the whole row is listed
+pub record DownTo (m : Model) (i first j k : ℕ) (targets₀ rates₀ targets rates : List ℕ) : Type 0 where
+  pub count : k + length (falling (isAdded m i) j) ≡ length (addedStates m i)
+  pub in-targets : sets targets (first + k) (falling (isAdded m i) j) ≡ sets targets₀ first (addedStates m i)
+  pub in-rates : sets rates (first + k) (map (c m i) (falling (isAdded m i) j)) ≡ sets rates₀ first (map (c m i) (addedStates m i))
+  pub same-targets : length targets ≡ length targets₀
+  pub same-rates : length rates ≡ length rates₀
