@@ -1,6 +1,7 @@
 // The proved code's algorithm in Rust, function by function, a module for each crate: definitions, reader, refusals,
 // poisson, vectors, means, start and moments. The helper is the `muldiv` beside it: crates/muldiv's (muldiv.rs), or one in
-// u128 (wide.rs).
+// u128 (wide.rs). How the rows of c are listed and added up is in `rows` beside it: as crates/arrows and vectors do it
+// (arrows.rs), or with every product (every.rs).
 //
 // For the measurement alone: what each function is, the crates say. What differs from the Rattle source is only what
 // Rust's syntax asks for: the same arrays by value and lent, the same loops.
@@ -161,12 +162,12 @@ mod reader {
         rewards_at(file) + 4 * states + 4 * (states - 1) * i
     }
 
-    fn row_of(file: &[u8], i: usize) -> &[u8] {
+    pub fn row_of(file: &[u8], i: usize) -> &[u8] {
         let at = row_at(file, i);
         &file[at..]
     }
 
-    fn entry_in(row: &[u8], i: usize, j: usize, diagonal: u64) -> u64 {
+    pub fn entry_in(row: &[u8], i: usize, j: usize, diagonal: u64) -> u64 {
         if j == i {
             return diagonal;
         }
@@ -210,21 +211,6 @@ mod reader {
 
     pub fn jump_millionths(rate: u64, time: u32) -> u64 {
         rate * time as u64
-    }
-
-    fn write_row(file: &[u8], i: usize, diagonal: u64, chain: &mut [u32]) {
-        let states = state_count(file);
-        let row = row_of(file, i);
-        for j in 0..states {
-            chain[i * states + j] = entry_in(row, i, j, diagonal) as u32;
-        }
-    }
-
-    pub fn write_chain(file: &[u8], sums: &[u64; 64], rate: u64, chain: &mut [u32]) {
-        let states = state_count(file);
-        for i in 0..states {
-            write_row(file, i, rate - sums[i], chain);
-        }
     }
 }
 
@@ -491,18 +477,17 @@ mod poisson {
 
 mod vectors {
     use super::definitions::{Division, Sizes, ONE};
-    use super::muldiv;
+    use super::{muldiv, rows};
 
-    fn wide(x: u32) -> u64 {
-        x as u64
-    }
-
-    pub fn row_mean(sizes: Sizes, chain: &[u32], v: &[u64; 64], i: usize) -> Division {
-        let states = sizes.states;
-        let mut total = 0;
-        for j in 0..states {
-            total += wide(chain[i * states + j]) * v[j];
-        }
+    pub fn row_mean(
+        sizes: Sizes,
+        targets: &[u8],
+        rates: &[u32],
+        counts: &[usize; 64],
+        v: &[u64; 64],
+        i: usize,
+    ) -> Division {
+        let total = rows::total(sizes.states, targets, rates, counts, v, i);
         muldiv::divide(total, sizes.rate)
     }
 
@@ -516,7 +501,9 @@ mod vectors {
 
     pub fn step(
         sizes: Sizes,
-        chain: &[u32],
+        targets: &[u8],
+        rates: &[u32],
+        counts: &[usize; 64],
         rewards: &[u64; 64],
         n: u64,
         r: u64,
@@ -526,7 +513,7 @@ mod vectors {
         let states = sizes.states;
         let mut next = [0u64; 64];
         for i in 0..states {
-            let v = row_mean(sizes, chain, &before, i);
+            let v = row_mean(sizes, targets, rates, counts, &before, i);
             let w = reward_share(rewards[i], same[i], sizes.largest);
             let u = mix(n, r, v.quotient, w.quotient);
             next[i] = u.quotient;
@@ -561,12 +548,20 @@ mod vectors {
         }
     }
 
-    pub fn next_table(sizes: Sizes, chain: &[u32], rewards: &[u64; 64], n: u64, table: &mut [[u64; 64]; 9]) {
+    pub fn next_table(
+        sizes: Sizes,
+        targets: &[u8],
+        rates: &[u32],
+        counts: &[usize; 64],
+        rewards: &[u64; 64],
+        n: u64,
+        table: &mut [[u64; 64]; 9],
+    ) {
         let highest = sizes.highest;
         for r in 1..highest + 1 {
             let before = table[r];
             let same = table[r - 1];
-            table[r] = step(sizes, chain, rewards, n, r as u64, before, same);
+            table[r] = step(sizes, targets, rates, counts, rewards, n, r as u64, before, same);
         }
     }
 }
@@ -613,7 +608,11 @@ mod means {
         if n > level {
             return;
         }
-        add_terms(sizes, row[n as usize], table, cells);
+        let w = row[n as usize];
+        if w == 0 {
+            return;
+        }
+        add_terms(sizes, w, table, cells);
     }
 
     fn add_to_blocks(
@@ -634,7 +633,9 @@ mod means {
 
     fn accumulate(
         sizes: Sizes,
-        chain: &[u32],
+        targets: &[u8],
+        rates: &[u32],
+        counts: &[usize; 64],
         rewards: &[u64; 64],
         levels: &[u64],
         largest: u64,
@@ -649,7 +650,7 @@ mod means {
         let mut n: u64 = 0;
         while n < largest {
             n += 1;
-            vectors::next_table(sizes, chain, rewards, n, &mut table);
+            vectors::next_table(sizes, targets, rates, counts, rewards, n, &mut table);
             add_to_blocks(sizes, n, levels, weights, &table, cells);
         }
     }
@@ -705,7 +706,9 @@ mod means {
 
     pub fn solve(
         sizes: Sizes,
-        chain: &[u32],
+        targets: &[u8],
+        rates: &[u32],
+        counts: &[usize; 64],
         rewards: &[u64; 64],
         xs: &[u64],
         tolerance: u64,
@@ -716,7 +719,7 @@ mod means {
         let count = xs.len();
         let mut totals = [0u64; MOST_TIMES];
         let largest = truncate_each(xs, tolerance, levels, &mut totals, weights);
-        accumulate(sizes, chain, rewards, &levels[..count], largest, weights, cells);
+        accumulate(sizes, targets, rates, counts, rewards, &levels[..count], largest, weights, cells);
         divide_blocks(&totals[..count], sizes.block, cells);
     }
 }
@@ -749,7 +752,7 @@ mod start {
 
 mod moments {
     use super::definitions::{Judgement, Outcome, Series, Sizes, MOST_TIMES};
-    use super::{means, poisson, reader, refusals, start};
+    use super::{means, poisson, reader, refusals, rows, start};
 
     const FEW_STATES: usize = 16;
 
@@ -771,32 +774,36 @@ mod moments {
     fn fill_with(
         file: &[u8],
         times: &[u32],
-        chain: &mut [u32],
+        targets: &mut [u8],
+        rates: &mut [u32],
         weights: &mut [u64],
         levels: &mut [u64],
         cells: &mut [u64],
     ) {
         let sums = reader::row_sums(file);
         let sizes = reader::sizes_of(file, &sums);
-        reader::write_chain(file, &sums, sizes.rate, chain);
+        let mut counts = [0usize; 64];
+        rows::list_rows(file, &sums, sizes.rate, targets, rates, &mut counts);
         let rewards = reader::rewards_of(file);
         let mut xs = [0u64; MOST_TIMES];
         write_jumps(sizes.rate, times, &mut xs);
         let count = times.len();
         let tolerance = reader::tolerance(file);
-        means::solve(sizes, chain, &rewards, &xs[..count], tolerance, weights, levels, cells);
+        means::solve(sizes, targets, rates, &counts, &rewards, &xs[..count], tolerance, weights, levels, cells);
         put_starts(file, sizes, count, cells);
     }
 
     fn fill(file: &[u8], times: &[u32], weights: &mut [u64], levels: &mut [u64], cells: &mut [u64]) {
         let states = reader::state_count(file);
         if states <= FEW_STATES {
-            let mut chain = [0u32; FEW_STATES * FEW_STATES];
-            fill_with(file, times, &mut chain, weights, levels, cells);
+            let mut targets = [0u8; FEW_STATES * FEW_STATES];
+            let mut rates = [0u32; FEW_STATES * FEW_STATES];
+            fill_with(file, times, &mut targets, &mut rates, weights, levels, cells);
             return;
         }
-        let mut chain = [0u32; 64 * 64];
-        fill_with(file, times, &mut chain, weights, levels, cells);
+        let mut targets = [0u8; 64 * 64];
+        let mut rates = [0u32; 64 * 64];
+        fill_with(file, times, &mut targets, &mut rates, weights, levels, cells);
     }
 
     fn fill_own(file: &[u8], cells: &mut [u64]) -> u64 {

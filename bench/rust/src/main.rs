@@ -1,9 +1,10 @@
-//! Times four calculations side by side, in one process, lists of times beside single calls, and the call for remainders
+//! Times five calculations side by side, in one process, lists of times beside single calls, and the call for remainders
 //! beside one for the moments. `bench/run` builds and runs this.
 //!
 //!     library   the proved call, from libkuldrepso.a
 //!     same      the same algorithm in Rust, with the same helper
 //!     wide      the same algorithm in Rust, with u128 in the helper's place
+//!     every     the same algorithm in Rust, with every product in a row mean, as before S-7
 //!     plain     the independent version of the comparison: u128 throughout, vectors on the heap
 //!
 //!     bench TURNS all FILE...                prints the times and the ratios
@@ -30,6 +31,9 @@ mod same {
     mod muldiv {
         include!("muldiv.rs");
     }
+    mod rows {
+        include!("arrows.rs");
+    }
     include!("algorithm.rs");
 }
 
@@ -37,6 +41,21 @@ mod same {
 mod wide {
     mod muldiv {
         include!("wide.rs");
+    }
+    mod rows {
+        include!("arrows.rs");
+    }
+    include!("algorithm.rs");
+}
+
+/// Every product in a row mean.
+#[allow(dead_code)] // its series is not timed
+mod every {
+    mod muldiv {
+        include!("muldiv.rs");
+    }
+    mod rows {
+        include!("every.rs");
     }
     include!("algorithm.rs");
 }

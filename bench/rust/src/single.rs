@@ -1,17 +1,18 @@
 //! Times single calls: of the library and of the versions in Rust.
 
 use crate::timing::{self, Spread, Timed};
-use crate::{independent, library, same, wide, CELLS};
+use crate::{every, independent, library, same, wide, CELLS};
 use std::hint::black_box;
 use std::path::Path;
 
 type Calculation = fn(&[u8], &mut [u64]) -> Result<u64, u8>;
 
 /// The library first, then the versions in Rust.
-const LINES: [(&str, Calculation); 4] = [
+const LINES: [(&str, Calculation); 5] = [
     ("library", library::calculate),
     ("same", same::calculate),
     ("wide", wide::calculate),
+    ("every", every::calculate),
     ("plain", independent::calculate),
 ];
 const LIBRARY: usize = 0;

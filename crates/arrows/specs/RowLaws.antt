@@ -32,16 +32,22 @@ added-by m i j diagonal = by (eqb j i)
 
 -- a row is listed from its highest state down: none at first, then one state after another is listed or left out
 module _ (m : Model) (i first : ℕ) (targets₀ rates₀ : List ℕ) where
-  pub none-listed : DownTo m i first (m .states) 0 targets₀ rates₀ targets₀ rates₀
+  pub none-listed : (j k : ℕ) → j ≡ m .states → k ≡ 0 → DownTo m i first j k targets₀ rates₀ targets₀ rates₀
   unfolding addedStates
-  none-listed =
-      let here : first + 0 ≡ first = omega arith in
-      record { count = omega arith; in-targets = rw here refl; in-rates = rw here refl; same-targets = refl; same-rates = refl }
+  none-listed j k all none =
+      let here : first + k ≡ first = omega arith in
+      record {
+        count = rw (all, none) (omega arith);
+        in-targets = rw (here, all) refl;
+        in-rates = rw (here, all) refl;
+        same-targets = refl;
+        same-rates = refl;
+      }
 
-  -- down to state 0 it is the whole row
-  pub all-listed : (k : ℕ) (targets rates : List ℕ) → DownTo m i first 0 k targets₀ rates₀ targets rates → (k ≡ length (addedStates m i)) × (targets ≡ sets targets₀ first (addedStates m i)) × (rates ≡ sets rates₀ first (map (c m i) (addedStates m i)))
+  -- down to state 0 it is the whole row, from where it has its places
+  pub all-listed : (k : ℕ) (targets rates : List ℕ) → DownTo m i first 0 k targets₀ rates₀ targets rates → (place : ℕ) → first ≡ place → (k ≡ length (addedStates m i)) × (targets ≡ sets targets₀ place (addedStates m i)) × (rates ≡ sets rates₀ place (map (c m i) (addedStates m i)))
   unfolding falling
-  all-listed k targets rates row = (omega (arith, row .count), row .in-targets, row .in-rates)
+  all-listed k targets rates row place here = rw (← here) (omega (arith, row .count), row .in-targets, row .in-rates)
 
   module _ (j k : ℕ) (targets rates : List ℕ) (before : DownTo m i first j k targets₀ rates₀ targets rates) (some : 0 < j) where
     pub left-out : isAdded m i (j - 1) ≡ false → DownTo m i first (j - 1) k targets₀ rates₀ targets rates

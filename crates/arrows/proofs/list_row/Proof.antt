@@ -2,15 +2,13 @@
 use Prim.Native.Nat.{ℕ, _+_, _*_, _-_, _≤_, _<_}
 use mathlib.Core.Path.{_≡_, sym, _∙_, ap, ap₂}
 use mathlib.Core.Bool.{_||_}
-use mathlib.Core.List.{map}
 use native.Mathlib.Omega.{arith}
 use borrow.Author.Needs.{needs}
 use lib.Dec.{eqb, ltb}
-use lib.Seq.{sets}
 use Rattle.definitions.specs.Sums.{pick}
 use Rattle.definitions.specs.File.{stateCount}
 use Rattle.definitions.specs.Chain.{Model, modelOf, c}
-use Rattle.definitions.specs.Arrows.{isAdded, addedStates}
+use Rattle.definitions.specs.Arrows.{isAdded}
 use Rattle.laws.specs.Rounding.{place-below}
 use Rattle.laws.specs.ChainLaws.{square-max}
 use Rattle.reader.specs.Framed.{entry-room, entry-in-row}
@@ -36,7 +34,7 @@ loop-holds : tie.Need-loop-holds Inv-loop μ-loop
 loop-holds d =
     let start = d .before .before .before .before .before in
     let read : d .before .state-count .result ≡ stateCount (start .args .file .now) = d .before .state-count .ensures in
-    (omega arith, rw read (none-listed (modelOf (start .args .file .now)) (start .args .i) _ (start .args .targets .now) (start .args .rates .now)))
+    (omega arith, none-listed (modelOf (start .args .file .now)) (start .args .i) _ _ _ _ _ (omega (arith, read)) (omega arith))
 
 entry-in-requires : tie.Need-entry-in-requires Inv-loop μ-loop
 entry-in-requires d κs other =
@@ -109,15 +107,9 @@ returns d =
     let row = d .before .loop in
     let read : d .before .before .before .state-count .result ≡ stateCount (start .args .file .now) = d .before .before .before .state-count .ensures in
     let none : row .j ≡ 0 = omega arith in
-    let file = modelOf (start .args .file .now) in
     let i = start .args .i in
-    let whole = all-listed file i _ _ _ (row .k) _ _ (rw none at (row .inv .1)) in (
-      whole .0,
-      (
-        whole .1 ∙ ap (λ (M : ℕ). sets (start .args .targets .now) (i * M) (addedStates file i)) read,
-        whole .2 ∙ ap (λ (M : ℕ). sets (start .args .rates .now) (i * M) (map (c file i) (addedStates file i))) read,
-      ),
-    )
+    let whole = all-listed (modelOf (start .args .file .now)) i _ _ _ (row .k) _ _ (rw none at (row .inv .1)) (i * stateCount (start .args .file .now)) (omega (arith, ap (λ (M : ℕ). i * M) read)) in
+    (whole .0, (whole .1, whole .2))
 
 pub list-row-spec : {M : Type 1} → statement M
 list-row-spec =
