@@ -4,16 +4,15 @@ use native.Mathlib.Nat.{mul-le-mul-right}
 use native.Mathlib.Numerals.{add-one}
 use native.Mathlib.Decide.{ℕ-discrete}
 use native.Mathlib.Omega.{arith}
-use mathlib.Core.Path.{_≡_, refl, sym, _∙_, ap, ap₂}
+use mathlib.Core.Path.{_≡_, refl, _∙_, ap}
 use mathlib.Core.Bool.{Bool, true, false, _||_}
 use mathlib.Core.List.{List, [], _∷_, map}
 use lib.Dec.{eqb, ltb}
-use lib.ListN.{length, getD, set, take, drop, length-set, length-drop}
+use lib.ListN.{length, getD, set, drop, length-set, length-drop}
 use lib.Seq.{sets, length-sets, length-take-le, getD-take, getD-drop, getD-set-same, getD-set-other, ext-getD}
 use Rattle.definitions.specs.Sums.{over, pick}
 use Rattle.definitions.specs.Chain.{Model, Listing, rowSum, uniformRate, c, listed}
 use Rattle.definitions.specs.Arrows.{falling, isAdded, addedStates, statesIn, ListsRow}
-use Rattle.laws.specs.Rounding.{place-below}
 use Rattle.laws.specs.ListLaws.{getD-over}
 use Rattle.laws.specs.ArrowLaws.{falling-takes, falling-leaves, length-falling, row-listed, Lists}
 use Rattle.arrows.specs.Rows.{rowsStored, DownTo}

@@ -8,9 +8,9 @@ use mathlib.Core.Bool.{Bool, true, false, not, _&&_, _||_, or-true}
 use mathlib.Core.List.{List, [], _∷_}
 use lib.Dec.{eqb, ltb}
 use lib.ListN.{length, getD}
-use borrow.Author.Tests.{eq-eqb, ne-eqb, lt-ltb, le-ltb, ltb-true, ltb-false, eqb-true, eqb-false, not-true}
+use borrow.Author.Tests.{eq-eqb, ne-eqb, lt-ltb, le-ltb, ltb-true, ltb-false, not-true}
 use Rattle.definitions.specs.Sums.{sum, pick}
-use Rattle.definitions.specs.Chain.{Model, Chain, Listing, jumpRate, rowSum, uniformRate, c, jumpMillionths, chainOf, padded, targetAt, rateAt, arrays, sizesOf}
+use Rattle.definitions.specs.Chain.{Model, Listing, jumpRate, rowSum, uniformRate, c, jumpMillionths, chainOf, padded, targetAt, rateAt, arrays, sizesOf}
 use Rattle.definitions.specs.Vectors.{rowMean, rewardShare, mix, nextEntry, nextVectors, U}
 use Rattle.definitions.specs.Level.{level}
 use Rattle.definitions.specs.Moment.{weightedMean, moment, modelLevel}

@@ -5,7 +5,7 @@ use denote.Ref.{now}
 use native.Mathlib.Omega.{arith}
 use lib.ListN.{getD}
 use Rattle.definitions.specs.Sums.{sum}
-use Rattle.definitions.specs.Chain.{Listing, listed, targetAt}
+use Rattle.definitions.specs.Chain.{listed}
 use Rattle.laws.specs.SumLaws.{sum-zero, sum-more, sum-part}
 use Rattle.laws.specs.Rounding.{quotient, remainder, same-parts, place-below}
 use Rattle.laws.specs.ChainLaws.{square-max}
