@@ -315,6 +315,13 @@ module _ (m : Model) (a : Listing) (rows : Lists m a) where
       idle t none true = none
       idle t none false = refl
 
+  -- what row i adds of v, place after place, is the sum of S-7's order
+  pub places-in-order : (v : ℕ → ℕ) (i : ℕ) → i < m .states → sum (getD (a .counts) i 0) (λ k. rateAt (m .states) a i k * v (targetAt (m .states) a i k)) ≡ addUp 0 (addedStates m i) (λ j. c m i j * v j)
+  places-in-order v i l =
+      ap (λ (n : ℕ). sum n (λ k. rateAt (m .states) a i k * v (targetAt (m .states) a i k))) (rows .count i l)
+      ∙ sum-same (length (addedStates m i)) _ (λ k. c m i (getD (addedStates m i) k 0) * v (getD (addedStates m i) k 0)) (λ k b. ap₂ (λ (t x : ℕ). x * v t) (rows .target i k l b) (rows .rate i k l b))
+      ∙ sym (add-up-places (addedStates m i) (λ j. c m i j * v j) 0 ∙ omega arith)
+
   -- the arrays hold the model's chain
   pub arrays-same : (f : List ℕ) → f ≡ padded (m .states) (m .reward) → m .states ≤ 64 → SameChain (arrays (sizesOf m) a f) (chainOf m)
   arrays-same f e h =
