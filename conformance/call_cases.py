@@ -9,6 +9,7 @@ import itertools
 import math
 import random
 
+import arrows
 import calculator
 import cases
 import edges
@@ -42,6 +43,7 @@ def spread(file):
     return weighted(file, models.uneven(random.Random(f"spread {len(file)}"), file[3]))
 
 
+FEW_ARROWS = dict(arrows.files())      # models by name
 A_MOVED, B_MOVED = moved(A), moved(B)
 B_START = weighted(B, [250_000, 750_000])
 
@@ -420,6 +422,9 @@ def series_values():
                  [1, 2, 50])
     for M, R, times in ((16, 3, [1, 500]), (64, 1, [1, 1_000]), (64, 8, EIGHT)):
         yield series(f"states-{M}-moments-{R}", states(M, R), times)
+    for name in ("arrows-none-of-middle", "arrows-none-of-last", "arrows-rates-1", "arrows-to-both-ends",
+                 "arrows-start", "arrows-one-crew-64-states"):
+        yield series(name, FEW_ARROWS[name], [1, 2, 5])
 
 
 def series_levels():
@@ -701,6 +706,18 @@ def remainders_models():
     yield at("border-12-rate-1", own_time(slow_pair(2), MAX_X), 1, 2, 2)
 
 
+def remainders_arrows():
+    """Models with few arrows: the first state, one between and the last; of 64 states, one with 63 arrows."""
+    for name in ("none-of-first", "none-of-middle", "none-of-last", "of-first-alone", "of-last-alone", "to-both-ends",
+                 "diagonal-0-of-middle", "equal-rates-apart", "rates-1", "rates-256", "rates-65536", "rates-largest"):
+        file = FEW_ARROWS[f"arrows-{name}"]
+        for numbers in ((1, 2, 1), (3, 3, 2), (5, inputs.limits(file)["n"], 2)):
+            yield at(f"arrows-{name}", file, *numbers)
+    for hub in (33, 64):
+        yield at(f"arrows-star-64-at-{hub}", FEW_ARROWS[f"arrows-star-64-at-{hub}"], hub, 2, 1)
+    yield at("arrows-start", FEW_ARROWS["arrows-start"], 4, 3, 2)
+
+
 def remainders_levels():
     """Levels that are decided by little: where t meets its bound at n, the next n is outside, where it misses it by one
     the next n is the last; and the level 1, that of the least jump counts."""
@@ -817,8 +834,8 @@ def remainders_start():
             yield remainders(f"refused-{row:02d}-start", alone(row, B_START), 1, 1, 1)
 
 
-REMAINDERS = (remainders_hand, remainders_corners, remainders_rests, remainders_models, remainders_levels,
-              remainders_none, remainders_rows, remainders_start)
+REMAINDERS = (remainders_hand, remainders_corners, remainders_rests, remainders_models, remainders_arrows,
+              remainders_levels, remainders_none, remainders_rows, remainders_start)
 
 
 # --- The converter --------------------------------------------------------------------------------------------

@@ -2,8 +2,8 @@
 """Write the comparison kit, conformance/files and conformance/calls: python3 conformance/make.py
 With --check, compare it with the stored one instead.
 
-Models come from fixed seeds and fields and from the table of edges.py, calls from call_cases.py, sheets and answers
-from reference/calculator.py, so that every run writes the same files.
+Models come from fixed seeds and fields, from arrows.py and from the table of edges.py, calls from call_cases.py, sheets
+and answers from reference/calculator.py, so that every run writes the same files.
 """
 
 import os
@@ -17,6 +17,7 @@ CALLS = os.path.join(HERE, "calls")
 sys.path.insert(0, HERE)
 sys.path.insert(0, os.path.join(os.path.dirname(HERE), "reference"))
 
+import arrows  # noqa: E402
 import calculator  # noqa: E402
 import call_cases  # noqa: E402
 import edges  # noqa: E402
@@ -324,6 +325,11 @@ def start_kinds():
         yield f"start-{kind.__name__.replace('_', '-')}", models.build(**models.in_version_2(fields, weights))
 
 
+def arrow_files():
+    """Models with few arrows (S-7)."""
+    yield from arrows.files()
+
+
 def practice_files():
     """Files dealt from seed numbers (S-6); the calls of practice have them by the same names."""
     for name, numbers in call_cases.PRACTICE.items():
@@ -352,7 +358,7 @@ def all_files():
     for group in (hand_checked, borders, pairs, least_pairs, least_of_version_2, other_versions, one_of_three,
                   weight_of_three, two_of_three, past_32_bits, weights_past_bits, lengths, read_limit, byte_values,
                   most_moments, near_rewards, moments, states, jump_counts, below_whole, tolerances, figures,
-                  start_figures, start_edges, start_kinds, practice_files, edge_files, kinds):
+                  start_figures, start_edges, start_kinds, arrow_files, practice_files, edge_files, kinds):
         yield from group()
 
 

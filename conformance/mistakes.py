@@ -33,8 +33,11 @@ NUMBER = 'int.from_bytes(file[start:start + size], "big")'
 RATES = "[[number(file, first + i * row_size + 4 * k, 4) for k in range(M - 1)] for i in range(M)]"
 LARGEST_SUM = "max(sum(row) for row in rates) or 1"
 ROW_E = "row[:i] + [E - sum(row)] + row[i:]"
+CHAIN_ROWS = f"[{ROW_E} for i, row in enumerate(rates)]"
+DIAGONAL = "E - sum(row)"
 FIRST = "f * u // model.F for f, u in zip(model.f, vectors[-1])"
 MEAN = "sum(map(mul, row, vector)) // model.E"
+ROW_MEANS = MEAN + " for row in model.c"
 MEANS = "V = row_means(model, before[r])"
 W = "f * u // model.F for f, u in zip(model.f, vectors[r - 1])"
 MIX = "(n * v + r * w) // (n + r)"
@@ -190,6 +193,43 @@ def overwritten(model, n, r, vector, W):
     return vector
 
 
+def arrows(rates):
+    """The arrows of each state, (target, rate) with targets counted from 0: the rates above 0, the highest first."""
+    return [[(k + (k >= i), row[k]) for k in reversed(range(len(row))) if row[k]] for i, row in enumerate(rates)]
+
+
+def chain_row(M, i, diagonal, listed):
+    """What a row mean adds by a diagonal and a list of arrows, as a row of the chain; an arrow to no state adds
+    nothing."""
+    row = [0] * M
+    row[i] = diagonal
+    for j, rate in listed:
+        if 0 <= j < M:
+            row[j] += rate
+    return row
+
+
+def in_one_list(lists, change):
+    """The arrows of all states in one list, row by row, and taken out again: from the start of each row to that of the
+    next, the starts, and the end behind them, changed."""
+    one = [arrow for listed in lists for arrow in listed]
+    starts = [sum(map(len, lists[:i])) for i in range(len(lists) + 1)]
+    starts = [change(i, start) for i, start in enumerate(starts)]
+    return [one[start:end] for start, end in zip(starts, starts[1:])]
+
+
+def at_most(lists, most):
+    """The lists with no more than so many arrows in all, row by row."""
+    return in_one_list(lists, lambda i, start: min(start, most))
+
+
+def one_off(rates, places):
+    """The rates of all rows read so many places late (1) or early (-1); 0 where there is none."""
+    M, width = len(rates), len(rates) - 1
+    every = [0] + [rate for row in rates for rate in row] + [0]
+    return [[every[1 + places + i * width + k] for k in range(width)] for i in range(M)]
+
+
 def unless_still(before, after):
     """The vectors before a step where the step moves no number by more than 1,000 ticks, else those after it."""
     still = all(abs(a - b) <= 1000 for old, new in zip(before, after) for a, b in zip(old, new))
@@ -306,8 +346,9 @@ def read_pieces(stream, size, most, enough=lambda file: False):
 
 
 HELPERS = (math.comb, up, nearest, even, binary64, binary32, extended, significant64, nearest_to, decimal, added,
-           digits15, signed, signed_bytes, by_columns, overwritten, unless_still, poisson, cut_once, e_to_q,
-           relation_10, exponent, as_binary64, crash, row_holds, by_length, row_by_row, state_by_state, read_pieces)
+           digits15, signed, signed_bytes, by_columns, overwritten, arrows, chain_row, in_one_list, at_most, one_off,
+           unless_still, poisson, cut_once, e_to_q, relation_10, exponent, as_binary64, crash, row_holds, by_length,
+           row_by_row, state_by_state, read_pieces)
 
 
 # --- The model file --------------------------------------------------------------------------------
@@ -680,7 +721,7 @@ CHAIN = [
     wrong("diagonal-negative", "c(i,i) is less the row's sum", (ROW_E, "row[:i] + [-sum(row)] + row[i:]")),
     wrong("diagonal-last", "c(i,i) put at the end of its row", (ROW_E, "row + [E - sum(row)]")),
     wrong("chain-transposed", "c(j,i) in place of c(i,j)",
-          (MEAN + " for row in model.c", MEAN + " for row in zip(*model.c)")),
+          (ROW_MEANS, ROW_MEANS.replace("model.c", "zip(*model.c)"))),
     wrong("F-first-state", "F is the first state's reward", ("f, max(f), c", "f, f[0], c")),
     wrong("F-last-state", "F is the last state's reward", ("f, max(f), c", "f, f[-1], c")),
     wrong("F-sum", "F is the sum of the rewards", ("f, max(f), c", "f, sum(f), c")),
@@ -731,6 +772,225 @@ VECTORS = [
           ("next_vectors(model, len(U), U[-1])", "unless_still(U[-1], next_vectors(model, len(U), U[-1]))")),
     wrong("mix-misprinted-binomial", "U(n,r) by binomials, a lower index one off",
           (MIX, "(comb(n + r - 1, r) * v + comb(n + r - 1, r) * w) // comb(n + r, r)")),
+]
+
+
+# --- Lists of arrows (S-7) ------------------------------------------------------------------------------
+# A row mean adds the diagonal and the arrows of a list, built from the file: for each row every other state with a rate
+# above 0, once, the highest first. In the new texts L is the right list of row i, `lists` has those of all rows, and
+# an arrow is a target j, counted from 0, with its rate a.
+
+def listing(name, what, listed="L", diagonal=DIAGONAL, lists="arrows(rates)"):
+    """Row means by another list, by another diagonal, or both."""
+    return wrong(name, what, (CHAIN_ROWS, f"[chain_row(M, i, {diagonal}, {listed}) for lists in [{lists}] "
+                                          "for i, (row, L) in enumerate(zip(rates, lists))]"))
+
+
+def arrow_list(name, what, listed="L", lists="arrows(rates)"):
+    """Another list; the diagonal is as it was."""
+    return listing(f"arrows-{name}", what, listed, lists=lists)
+
+
+def without(name, what, when):
+    """Some arrows left out."""
+    return arrow_list(f"without-{name}", f"{what} left out", f"[(j, a) for j, a in L if not ({when})]")
+
+
+def to_target(name, what, target):
+    """Arrows with another target."""
+    return arrow_list(f"targets-{name}", what, f"[({target}, a) for j, a in L]")
+
+
+def rate_listed(name, what, rate):
+    """Arrows with another rate."""
+    return arrow_list(f"rates-{name}", f"rates {what} when listed", f"[(j, {rate}) for j, a in L]")
+
+
+def in_one(name, what, change):
+    """The starts of the rows in one list changed."""
+    return arrow_list(f"starts-{name}", what, lists=f"in_one_list(arrows(rates), lambda i, start: {change})")
+
+
+def diagonal(name, what, new):
+    """Another diagonal; the list is as it was."""
+    return listing(f"diagonal-{name}", what, diagonal=new)
+
+
+def to_diagonal(name, what, listed):
+    """A list that is not whole, and E less what is listed for the diagonal."""
+    return listing(f"arrows-{name}-to-diagonal", f"{what}, its rate left to the diagonal", listed,
+                   f"E - sum(a for j, a in ({listed}))")
+
+
+def cut_lists():
+    """Lists cut at a number of arrows: in a row from either end, or in all."""
+    for most in (1, 2, 4, 8, 16, 31, 32, 62):
+        yield arrow_list(f"at-most-{most}", f"at most {most} arrows of a row listed, the highest", f"L[:{most}]")
+        yield arrow_list(f"at-most-{most}-lowest", f"at most {most} arrows of a row listed, the lowest", f"L[-{most}:]")
+    for most in (64, 128, 255, 256, 512, 1024, 2048, 4031):
+        yield arrow_list(f"at-most-{most}-in-all", f"at most {most:,} arrows listed in all",
+                         lists=f"at_most(arrows(rates), {most})")
+    for bits in (4, 5):
+        yield arrow_list(f"count-{bits}-bit", f"the count of a row's arrows in {bits} bits",
+                         f"L[:len(L) % {2**bits}]")
+
+
+ENDS_LEFT_OUT = {
+    "lowest": "L[:-1]",
+    "highest": "L[1:]",
+}
+IN_ROWS = {
+    "row": ("every row", "True"),
+    "row-of-several": ("every row with two arrows or more", "len(L) > 1"),
+    "first-row": ("the first row", "i == 0"),
+    "last-row": ("the last row", "i == M - 1"),
+    "first-row-of-several": ("the first row, where it has two or more,", "i == 0 and len(L) > 1"),
+    "last-row-of-several": ("the last row, where it has two or more,", "i == M - 1 and len(L) > 1"),
+    "row-64": ("the row of state 64", "i == 63"),
+}
+
+
+def missing_at_ends():
+    """The lowest or the highest arrow of a row left out, in every row or in some."""
+    for row, (where, when) in IN_ROWS.items():
+        for end, part in ENDS_LEFT_OUT.items():
+            yield arrow_list(f"without-{end}-in-{row}", f"the {end} arrow of {where} left out",
+                             f"{part} if {when} else L")
+
+
+ARROWS = [
+    # which arrows
+    *missing_at_ends(),
+    *cut_lists(),
+    *(without(*entry) for entry in (
+        ("first-state", "arrows to state 1", "j == 0"),
+        ("last-state", "arrows to state M", "j == M - 1"),
+        ("next-state", "arrows to the next state", "j == i + 1"),
+        ("state-before", "arrows to the state before", "j == i - 1"),
+        ("higher-states", "arrows to higher states", "j > i"),
+        ("lower-states", "arrows to lower states", "j < i"),
+        ("states-from-33", "arrows to states above 32, by 32 bits for the targets,", "j >= 32"),
+        ("state-64", "arrows to state 64, its number in six bits,", "j == 63"),
+        ("row-64", "arrows of state 64, its number in six bits,", "i == 63"),
+        ("first-row", "all arrows of the first row", "i == 0"),
+        ("last-row", "all arrows of the last row", "i == M - 1"),
+        ("way-back", "of two arrows between two states the one to the lower", "j < i and i in dict(lists[j])"),
+        ("absorbing-targets", "arrows to a state that has none", "not lists[j]"),
+        ("rate-1", "arrows of rate 1", "a == 1"),
+        ("rates-by-low-8-bits", "arrows whose rate is 0 in its last 8 bits", "a % 2**8 == 0"),
+        ("rates-by-low-16-bits", "arrows whose rate is 0 in its last 16 bits", "a % 2**16 == 0"),
+        ("rates-by-high-bits", "arrows whose rate has no bit before the last 16", "a < 2**16"),
+        ("below-diagonal-0", "arrows to lower states, where a diagonal of 0 ends the list,",
+         f"j < i and {DIAGONAL} == 0"))),
+    arrow_list("to-first-0", "the list ended by the first rate of 0, from the highest j on",
+               "L[:row[::-1].index(0)] if 0 in row else L"),
+    arrow_list("from-last-0", "the list ended by the first rate of 0, from the lowest j on",
+               "L[len(L) - row.index(0):] if 0 in row else L"),
+    arrow_list("equal-rates-once", "of the arrows of a row with the same rate one listed",
+               "[(j, a) for a, j in {a: j for j, a in L}.items()]"),
+    arrow_list("highest-twice", "the highest arrow of a row listed twice", "L[:1] + L"),
+    arrow_list("lowest-twice", "the lowest arrow of a row listed twice", "L + L[-1:]"),
+    arrow_list("next-state-twice", "the arrow to the next state listed twice", "L + [b for b in L if b[0] == i + 1]"),
+    arrow_list("state-before-twice", "the arrow to the state before listed twice",
+               "L + [b for b in L if b[0] == i - 1]"),
+    arrow_list("both-ways", "each arrow taken to lead back as well",
+               "L + [(j, b) for j, back in enumerate(lists) for k, b in back if k == i]"),
+    # of which row
+    arrow_list("of-row-before", "the list of the row before read", "lists[max(i - 1, 0)]"),
+    arrow_list("of-next-row", "the list of the next row read", "lists[min(i + 1, M - 1)]"),
+    arrow_list("of-first-row", "the list of the first row read for every row", "lists[0]"),
+    arrow_list("of-last-row", "the list of the last row read for every row", "lists[-1]"),
+    arrow_list("kept", "the list of the row before kept for a state without arrows", "L or lists[max(i - 1, 0)]"),
+    arrow_list("kept-at-the-end", "the end of the list before kept where the new one is shorter",
+               "L + lists[max(i - 1, 0)][len(L):]"),
+    arrow_list("growing", "the arrows of all rows before added too", "sum(lists[:i], L)"),
+    arrow_list("growing-by-one", "the arrows of the row before added too", "L + lists[i - 1] if i else L"),
+    arrow_list("one-late", "the rates of all rows read one place late", lists="arrows(one_off(rates, 1))"),
+    arrow_list("one-early", "the rates of all rows read one place early", lists="arrows(one_off(rates, -1))"),
+    arrow_list("of-version-1", "the lists of version 2 read where version 1 has its rates",
+               lists="arrows(read_rates(file[:2] + b'\\1' + file[3:], M))"),
+    in_one("8-bit", "the starts of the rows in one list in 8 bits", "start % 2**8"),
+    in_one("0-without-arrows", "the start of a row without arrows left at 0",
+           "start if i == M or any(rates[i]) else 0"),
+    in_one("from-1", "the first arrow of all left out, its number 0 being none", "max(start, 1)"),
+    in_one("one-late", "each row from its second arrow to the first of the next", "start + 1"),
+    in_one("without-last", "the last arrow of all left out", "min(start, sum(map(len, arrows(rates))) - 1)"),
+    # with which target and rate
+    to_target("k", "the diagonal not passed over: targets above it one too low", "j - (j > i)"),
+    to_target("k-plus-1", "the diagonal passed over from the first on: targets below it one too high", "j + (j < i)"),
+    to_target("next-to-itself", "the diagonal passed over one late: the arrow to the next state to itself",
+              "i if j == i + 1 else j"),
+    to_target("before-to-itself", "the diagonal passed over one early: the arrow to the state before to itself",
+              "i if j == i - 1 else j"),
+    to_target("one-higher", "targets counted from 1, vectors from 0", "j + 1"),
+    to_target("one-lower", "targets counted from 0, vectors from 1", "j - 1"),
+    to_target("from-the-end", "targets counted from the last state", "M - 1 - j"),
+    to_target("5-bit", "targets in 5 bits", "j % 32"),
+    arrow_list("rates-lowest-first", "the rates of a list lowest target first, its targets highest first",
+               "[(j, a) for (j, _), (_, a) in zip(L, L[::-1])]"),
+    arrow_list("rates-of-next-arrow", "each target with the rate of the next arrow",
+               "[(j, a) for (j, _), (_, a) in zip(L, L[1:])]"),
+    *(rate_listed(*entry) for entry in (
+        ("16-bit", "cut to 16 bits", "a % 2**16"),
+        ("16-bit-signed", "cut to 16 bits with a sign", "signed(a, 16)"),
+        ("at-most-65535", "held at 65,535", "min(a, 2**16 - 1)"),
+        ("20-bit", "cut to 20 bits", "a % 2**20"),
+        ("24-bit-signed", "cut to 24 bits with a sign", "signed(a, 24)"),
+        ("11-bits", "cut to 11 significant bits", "a - a % 2**max(a.bit_length() - 11, 0)"),
+        ("thousandths", "cut to whole thousandths per hour", "a // 1_000 * 1_000"))),
+    # the diagonal
+    *(diagonal(*entry) for entry in (
+        ("twice", "c(i,i) added twice", f"2 * ({DIAGONAL})"),
+        ("with-each-arrow", "c(i,i) added with each arrow", f"({DIAGONAL}) * (len(L) or 1)"),
+        ("with-each-lower-arrow", "c(i,i) added before each arrow to a lower state",
+         f"({DIAGONAL}) * (sum(j < i for j, a in L) or 1)"),
+        ("0-absorbing", "c(i,i) left out for a state without arrows", f"{DIAGONAL} if L else 0"),
+        ("0-not-absorbing", "c(i,i) left out but for a state without arrows", f"0 if L else {DIAGONAL}"),
+        ("0-both-sides", "c(i,i) left out where a row has arrows on both sides",
+         f"0 if L and L[-1][0] < i < L[0][0] else {DIAGONAL}"),
+        ("0-no-lower", "c(i,i) left out where arrows lead to higher states alone",
+         f"0 if L and i < L[-1][0] else {DIAGONAL}"),
+        ("0-no-higher", "c(i,i) left out where arrows lead to lower states alone",
+         f"0 if L and L[0][0] < i else {DIAGONAL}"),
+        ("0-first-state", "c(i,i) left out for the first of several states", f"0 if i == 0 < M - 1 else {DIAGONAL}"),
+        ("0-last-state", "c(i,i) left out for the last of several states", f"0 if i == M - 1 > 0 else {DIAGONAL}"),
+        ("0-first-absorbing", "c(i,i) left out for the first of several states, where it has no arrows",
+         f"0 if i == 0 < M - 1 and not L else {DIAGONAL}"),
+        ("0-last-absorbing", "c(i,i) left out for the last of several states, where it has no arrows",
+         f"0 if i == M - 1 > 0 and not L else {DIAGONAL}"),
+        ("0-absorbing-between", "c(i,i) left out for a state without arrows between others",
+         f"0 if 0 < i < M - 1 and not L else {DIAGONAL}"),
+        ("0-state-64", "c(i,i) left out for state 64", f"{DIAGONAL} if i < 63 else 0"),
+        ("0-one-arrow", "c(i,i) left out for a state with one arrow", f"0 if len(L) == 1 else {DIAGONAL}"),
+        ("0-63-arrows", "c(i,i) left out for a state with 63 arrows", f"0 if len(L) == 63 else {DIAGONAL}"),
+        ("1-absorbing", "c(i,i) is 1 for a state without arrows", f"{DIAGONAL} if L else 1"),
+        ("E-for-0", "c(i,i) is E where it is 0", f"{DIAGONAL} or E"),
+        ("less-largest-rate", "c(i,i) is E less the row's largest rate", "E - max(row, default=0)"),
+        ("less-last-arrow", "c(i,i) is E less the rate listed last", "E - (L[-1][1] if L else 0)"),
+        ("less-first-arrow", "c(i,i) is E less the rate listed first", "E - (L[0][1] if L else 0)"))),
+    listing("diagonal-to-last-arrow", "c(i,i) times the number of the state listed last",
+            f"L + [(L[-1][0] if L else i, {DIAGONAL})]", "0"),
+    listing("diagonal-to-first-state", "c(i,i) times the number of the first state", f"L + [(0, {DIAGONAL})]", "0"),
+    *(to_diagonal(*entry) for entry in (
+        ("without-rate-1", "an arrow of rate 1 left out", "[(j, a) for j, a in L if a > 1]"),
+        ("without-first-state", "the arrow to state 1 left out", "[(j, a) for j, a in L if j]"),
+        ("without-last-state", "the arrow to state M left out", "[(j, a) for j, a in L if j < M - 1]"),
+        ("without-lowest-in-last-row", "the lowest arrow of the last row left out", "L[:-1] if i == M - 1 else L"),
+        ("without-highest-in-last-row", "the highest arrow of the last row left out", "L[1:] if i == M - 1 else L"),
+        ("without-lowest-in-first-row", "the lowest arrow of the first row left out", "L[:-1] if i == 0 else L"),
+        ("without-highest-in-first-row", "the highest arrow of the first row left out", "L[1:] if i == 0 else L"),
+        ("at-most-8", "an arrow behind the eighth left out", "L[:8]"),
+        ("at-most-62", "the lowest of 63 arrows left out", "L[:62]"),
+        ("at-most-62-lowest", "the highest of 63 arrows left out", "L[-62:]"),
+        ("rates-16-bit", "the rate cut to 16 bits", "[(j, a % 2**16) for j, a in L]"),
+        ("to-first-0", "an arrow behind the first rate of 0 left out", "L[:row[::-1].index(0)] if 0 in row else L"))),
+    wrong("rates-1-as-0", "a rate of 1 read as 0", (RATES, f"[[a if a > 1 else 0 for a in row] for row in {RATES}]")),
+    wrong("row-mean-own-sum", "V over the row's own sum, without the diagonal",
+          (ROW_MEANS, "(sum(map(mul, row, vector)) - row[i] * vector[i]) // (model.E - row[i]) if row[i] < model.E "
+                      "else vector[i] for i, row in enumerate(model.c)")),
+    wrong("row-mean-one-carry", "V from quotients and remainders, at most one E taken out of these",
+          (MEAN, "(sum(a * b // model.E for a, b in zip(row, vector)) + "
+                 "(sum(a * b % model.E for a, b in zip(row, vector)) >= model.E))")),
 ]
 
 
@@ -1083,6 +1343,22 @@ EQUIVALENT = [
           (MIX, "int((n * v + r * w) / (n + r))")),
     wrong("row-mean-j-falling", "V summed from the last j: a sum of whole numbers has no order",
           (MEAN, "sum(map(mul, row[::-1], vector[::-1])) // model.E")),
+    arrow_list("right", "the list as S-7 has it: a rate of 0 adds nothing, and a sum of whole numbers has no order"),
+    arrow_list("lowest-first", "the list lowest first: a sum of whole numbers has no order", "L[::-1]"),
+    arrow_list("in-one-list", "the arrows of all rows in one list, each row from its start to that of the next",
+               lists="in_one_list(arrows(rates), lambda i, start: start)"),
+    arrow_list("at-most-63", "at most 63 arrows of a row listed: there are not more", "L[:63]"),
+    arrow_list("at-most-4032-in-all", "at most 4,032 arrows listed in all: there are not more",
+               lists="at_most(arrows(rates), 4032)"),
+    arrow_list("rates-24-bit", "rates cut to 24 bits when listed: by row 11 they are at most 10,000,000, below 2^24",
+               "[(j, a % 2**24) for j, a in L]"),
+    arrow_list("rates-binary32", "rates in binary32 when listed: below 2^24 it holds every whole number",
+               "[(j, int(binary32(a))) for j, a in L]"),
+    listing("diagonal-listed-above-0", "c(i,i) listed as an arrow to itself, where it is above 0: 0 adds nothing",
+            f"[(j, a) for j, a in [*L, (i, {DIAGONAL})] if a]", "0"),
+    wrong("absorbing-kept", "U(0,r) kept for a state without arrows: V is U(n-1,r) there and W the same as U(0,r)",
+          (MIXED, "[u if model.c[i][i] == model.E else (n * v + r * w) // (n + r) "
+                  "for i, (v, w, u) in enumerate(zip(V, W, before[r]))]")),
     last("doubled", "as 2 A 10^12 + S(N) over 2 S(N), down: that is to the nearest, a half going up",
          "(2 * A * ONE + S) // (2 * S)"),
     last("half-added", "down after half of S(N), down, is added: no remainder is half of an odd S(N)",
@@ -1121,7 +1397,7 @@ EQUIVALENT = [
     started_by("at-most-one", "never above 10^12: no moment is", f"min({START}, ONE)"),
 ]
 
-CALCULATION = (*CHAIN, *VECTORS, *WEIGHT_LIST, *LEVEL, *MOMENTS, *LAST_DIVISION)
+CALCULATION = (*CHAIN, *VECTORS, *ARROWS, *WEIGHT_LIST, *LEVEL, *MOMENTS, *LAST_DIVISION)
 TABLE = {}
 for _entry in (*MODEL_FILE, *REFUSAL_TABLE, *VERSION_2, *CALCULATION, *START_FIGURES, *START_CELLS, *SHEET, *PROGRAMS):
     if _entry.name in TABLE:

@@ -230,7 +230,13 @@ def in_whole_numbers(entry):
     return not any(word in entry.name for word in ("binary64", "15-digits", "as-share"))
 
 
-SHEETS = of_sheets(*mistakes.CHAIN, *mistakes.VECTORS, *filter(in_whole_numbers, mistakes.LEVEL))
+def in_few_arrows(entry):
+    """Whether a mistake is not one of 4,032 arrows, those of 64 states with no rate of 0."""
+    return entry.name != "arrows-at-most-4031-in-all"
+
+
+SHEETS = of_sheets(*mistakes.CHAIN, *mistakes.VECTORS, *filter(in_few_arrows, mistakes.ARROWS),
+                   *filter(in_whole_numbers, mistakes.LEVEL))
 
 
 # --- The numbers ----------------------------------------------------------------------------------------------

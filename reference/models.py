@@ -377,6 +377,33 @@ def sparse(rng):
     return fields_for(rng, rng.randint(8, 16), E, random_time(rng, E), R=rng.randint(1, 3), fill=0.0)
 
 
+def row_of_arrows(rng, M, count, total):
+    """M - 1 rates that sum to total, or to count where that is more: so many of them at least 1, the others 0."""
+    row = [0] * (M - 1)
+    if count:
+        for place, part in zip(rng.sample(range(M - 1), count), split(rng, max(0, total - count), count)):
+            row[place] = 1 + part
+    return row
+
+
+def few_arrows(rng):
+    """Up to 64 states with none to three arrows each, now and then one with arrows to all others; the largest row sum,
+    so that the diagonal is 0, in one state or in several, and rates of 1."""
+    M, E = rng.choice([33, 63, 64, rng.randint(5, 64)]), log_uniform(rng, 100, MAX_ROW_SUM)
+    counts = [rng.choice([0, 1, 1, 2, 3]) for _ in range(M)]
+    if rng.random() < 0.3:
+        counts[rng.randrange(M)] = M - 1
+    for place in rng.sample([0, M // 2, M - 1], rng.randint(0, 2)):
+        counts[place] = 0
+    busiest = rng.randrange(M)
+    counts[busiest] = counts[busiest] or 1
+    totals = [rng.choice([E, counts[i], rng.randint(1, E)]) for i in range(M)]
+    totals[busiest] = E
+    fields = fields_for(rng, M, E, rng.randint(1, max(1, 20_000_000 // E)), R=rng.randint(1, 3))
+    fields["rates"] = [row_of_arrows(rng, M, count, total) for count, total in zip(counts, totals)]
+    return fields
+
+
 def dense(rng):
     E = log_uniform(rng, 1, MAX_ROW_SUM)
     return fields_for(rng, rng.randint(8, 14), E, random_time(rng, E), R=rng.randint(1, 4), fill=1.0)
@@ -409,13 +436,16 @@ SMALL_KINDS = [
 
 
 def valid_kind(index):
-    """The kind of the valid model number `index`: mostly small, now and then a larger one or one at half a tick."""
+    """The kind of the valid model number `index`: mostly small, now and then a larger one, one with few arrows or one
+    at half a tick."""
     if index % 100 == 47:
         return heaviest
     if index % 10 == 6:
         return half_tick
     if index % 40 == 23:
         return large
+    if index % 20 == 17:
+        return few_arrows
     if index % 20 == 11:
         return medium
     return SMALL_KINDS[index % len(SMALL_KINDS)]
