@@ -3,8 +3,9 @@
 // u128 (wide.rs). How the rows of c are listed and added up is in `rows` beside it: as crates/arrows and vectors do it
 // (arrows.rs), or with every product (every.rs).
 //
-// For the measurement alone: what each function is, the crates say. What differs from the Rattle source is only what
-// Rust's syntax asks for: the same arrays by value and lent, the same loops.
+// For the measurement alone: what each function is, the crates say. What differs from the Rattle source is what Rust's
+// syntax asks for, and that the loop of `row_mean` is a function of `rows`: the same arrays by value and lent, the same
+// loops.
 
 use definitions::{Outcome, Series};
 

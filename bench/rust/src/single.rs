@@ -42,7 +42,8 @@ impl Case {
         self.file[4].into()
     }
 
-    /// M × M × R × N, the number of products c(i,j) × U.
+    /// M × M × R × N, the number of products c(i,j) × U where no entry of c is 0. Of the others only `every` and `plain` make
+    /// all of them.
     fn products(&self) -> u64 {
         self.states() * self.states() * self.highest() * self.level
     }
@@ -79,7 +80,7 @@ impl Timed<Case> {
         let fastest = self.fastest_in_rust();
         let Case { name, level, .. } = &self.case;
         let (states, highest, products) = (self.case.states(), self.case.highest(), self.case.products());
-        println!("{name}: {states} states, R = {highest}, level {level}, {products} products");
+        println!("{name}: {states} states, R = {highest}, level {level}, {products} products c(i,j) × U");
         println!("  line         median      least   greatest ns/product  library/line  line/fastest   middle half");
         for (line, (label, _)) in LINES.iter().enumerate() {
             let Spread { median, least, greatest, .. } = self.times(line);

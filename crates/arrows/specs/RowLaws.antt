@@ -12,9 +12,9 @@ use lib.ListN.{length, getD, set, drop, length-set, length-drop}
 use lib.Seq.{sets, length-sets, length-take-le, getD-take, getD-drop, getD-set-same, getD-set-other, ext-getD}
 use Rattle.definitions.specs.Sums.{over, pick}
 use Rattle.definitions.specs.Chain.{Model, Listing, rowSum, uniformRate, c, listed}
-use Rattle.definitions.specs.Arrows.{falling, isAdded, addedStates, statesIn, ListsRow}
+use Rattle.definitions.specs.Arrows.{falling, isAdded, addedStates, statesIn, ListsRows}
 use Rattle.laws.specs.ListLaws.{getD-over}
-use Rattle.laws.specs.ArrowLaws.{falling-takes, falling-leaves, length-falling, row-listed, Lists}
+use Rattle.laws.specs.ArrowLaws.{falling-takes, falling-leaves, length-falling, row-listed, HoldsRows}
 use Rattle.arrows.specs.Rows.{rowsStored, DownTo}
 
 -- what is read of the file's row is the entry of c, and is_added tells whether the row's mean adds its state
@@ -142,7 +142,7 @@ module _ (m : Model) where
   entries-fit i = omega (arith, length-map (c m i) (addedStates m i), added-fits i)
 
   -- with every row stored, the arrays hold the rows
-  pub rows-listed : (targets rates counts t r k : List ℕ) → m .states * m .states ≤ length targets → m .states * m .states ≤ length rates → t ≡ rowsStored (addedStates m) (m .states) (m .states) targets → r ≡ rowsStored (λ i. map (c m i) (addedStates m i)) (m .states) (m .states) rates → k ≡ over (m .states) (λ i. length (addedStates m i)) counts → Lists m (listed t r k)
+  pub rows-listed : (targets rates counts t r k : List ℕ) → m .states * m .states ≤ length targets → m .states * m .states ≤ length rates → t ≡ rowsStored (addedStates m) (m .states) (m .states) targets → r ≡ rowsStored (λ i. map (c m i) (addedStates m i)) (m .states) (m .states) rates → k ≡ over (m .states) (λ i. length (addedStates m i)) counts → HoldsRows m (listed t r k)
   rows-listed targets rates counts t r k troom rroom et er ek =
       record {
         target-room = omega (arith, troom, ap length et, length-stored (addedStates m) (m .states) added-fits targets (m .states));
@@ -157,16 +157,16 @@ module _ (m : Model) where
       }
 
   -- and each of them is shown to be what document 02 asks for
-  pub row-shown : (a : Listing) → Lists m a → (i : ℕ) → i < m .states → ListsRow m i (statesIn (m .states) a i)
-  row-shown a rows i l = rw same (row-listed m i l)
+  pub rows-shown : (a : Listing) → HoldsRows m a → ListsRows m a
+  rows-shown a rows = record { row = λ i l. rw (same i l) (row-listed m i l) }
     where
-      whole : i * m .states + m .states ≤ length (a .targets)
-      whole = omega (arith, rows .target-room, mul-le-mul-right (m .states) l)
+      whole : (i : ℕ) → i < m .states → i * m .states + m .states ≤ length (a .targets)
+      whole i l = omega (arith, rows .target-room, mul-le-mul-right (m .states) l)
 
-      count : length (statesIn (m .states) a i) ≡ length (addedStates m i)
-      count = length-take-le (getD (a .counts) i 0) (drop (i * m .states) (a .targets)) (omega (arith, rows .count i l, added-fits i, length-drop (i * m .states) (a .targets), whole)) ∙ rows .count i l
+      count : (i : ℕ) → i < m .states → length (statesIn (m .states) a i) ≡ length (addedStates m i)
+      count i l = length-take-le (getD (a .counts) i 0) (drop (i * m .states) (a .targets)) (omega (arith, rows .count i l, added-fits i, length-drop (i * m .states) (a .targets), whole i l)) ∙ rows .count i l
 
-      same : statesIn (m .states) a i ≡ addedStates m i
-      same =
-          ext-getD 0 (statesIn (m .states) a i) (addedStates m i) count
-          (λ k b. getD-take (getD (a .counts) i 0) (drop (i * m .states) (a .targets)) k 0 (omega (arith, b, count, rows .count i l)) ∙ getD-drop (i * m .states) (a .targets) k 0 ∙ rows .target i k l (omega (arith, b, count)))
+      same : (i : ℕ) → i < m .states → statesIn (m .states) a i ≡ addedStates m i
+      same i l =
+          ext-getD 0 (statesIn (m .states) a i) (addedStates m i) (count i l)
+          (λ k b. getD-take (getD (a .counts) i 0) (drop (i * m .states) (a .targets)) k 0 (omega (arith, b, count i l, rows .count i l)) ∙ getD-drop (i * m .states) (a .targets) k 0 ∙ rows .target i k l (omega (arith, b, count i l)))

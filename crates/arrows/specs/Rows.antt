@@ -14,14 +14,14 @@ unfoldable pub rowsStored : (ℕ → List ℕ) → ℕ → ℕ → List ℕ → 
 rowsStored row M zero l = l
 rowsStored row M (suc i) l = sets (rowsStored row M i l) (i * M) (row i)
 
--- row i of a framed file, with what stands on its diagonal, and as many places as are lent
-pub record RowAsked (s : List ℕ) (i diagonal targets rates : ℕ) : Type 0 where
+-- row i of a framed file, what stands on its diagonal, and how many places are lent for targets and for rates
+pub record RowAsked (s : List ℕ) (i diagonal target-places rate-places : ℕ) : Type 0 where
   pub framed : Framed s
   pub state : i < stateCount s
   pub stays : diagonal ≡ uniformRate (modelOf s) - rowSum (modelOf s) i
   pub stays-max : diagonal < 2 ^ 32
-  pub target-room : stateCount s * stateCount s ≤ targets
-  pub rate-room : stateCount s * stateCount s ≤ rates
+  pub target-room : stateCount s * stateCount s ≤ target-places
+  pub rate-room : stateCount s * stateCount s ≤ rate-places
 
 -- row i listed down to state j, in k places from the first on: with the states below j in the places after them the whole row is listed
 pub record DownTo (m : Model) (i first j k : ℕ) (targets₀ rates₀ targets rates : List ℕ) : Type 0 where

@@ -1,23 +1,23 @@
 // The arrows of a model file, listed for the steps: a row mean adds only the states with a rate above 0 and the diagonal,
 // from the highest to the lowest.
 //
-// Row i has M places, from i * M on. In the first of them stand its states, highest first, each with its entry of c: the
-// rate, and on the diagonal E less the row's sum.
+// Row i has M places, from i * M on. In the first of them stand the states that its mean adds, highest first, each with its
+// entry of c: the rate, and on the diagonal E less the row's sum.
 ghost use mathlib.Core.Path.{_≡_};
 ghost use mathlib.Core.Bool.{_||_};
 ghost use mathlib.Core.List.{map};
-ghost use Prim.Native.Nat.{ℕ, _*_, _≤_, _<_, _^_};
+ghost use Prim.Native.Nat.{_*_, _≤_, _<_, _^_};
 ghost use lib.Dec.{eqb, ltb};
 ghost use lib.ListN.{length};
 ghost use lib.Seq.{sets};
 ghost use Rattle.definitions.specs.Sums.{over};
 ghost use Rattle.definitions.specs.File.{stateCount};
 ghost use Rattle.definitions.specs.Chain.{modelOf, rowSum, uniformRate, c, padded, listed};
-ghost use Rattle.definitions.specs.Arrows.{addedStates, statesIn, ListsRow};
+ghost use Rattle.definitions.specs.Arrows.{addedStates, ListsRows};
 ghost use Rattle.laws.specs.Acceptance.{Framed};
 ghost use Rattle.arrows.specs.Rows.{rowsStored, RowAsked};
 
-// Whether row i's mean adds state j, of which c(i,j) is the entry: on the diagonal, and where the rate is above 0.
+// Whether row i's mean adds state j: on the diagonal, and where the rate is above 0. The entry is c(i,j).
 fn is_added(i: usize, j: usize, entry: u64) -> bool
     ensures { λ b. ⌜ b ≡ (eqb j i || ltb 0 entry) ⌝ }
 {
@@ -67,7 +67,7 @@ pub fn list_rows(
     ensures targets { λ r. ⌜ now (targets .exit) ≡ rowsStored (addedStates (modelOf (now (file .entry)))) (stateCount (now (file .entry))) (stateCount (now (file .entry))) (now (targets .entry)) ⌝ }
     ensures rates { λ r. ⌜ now (rates .exit) ≡ rowsStored (λ i. map (c (modelOf (now (file .entry))) i) (addedStates (modelOf (now (file .entry))) i)) (stateCount (now (file .entry))) (stateCount (now (file .entry))) (now (rates .entry)) ⌝ }
     ensures counts { λ r. ⌜ now (counts .exit) ≡ over (stateCount (now (file .entry))) (λ i. length (addedStates (modelOf (now (file .entry))) i)) (now (counts .entry)) ⌝ }
-    ensures shown { λ r. ⌜ ((i : ℕ) → i < stateCount (now (file .entry)) → ListsRow (modelOf (now (file .entry))) i (statesIn (stateCount (now (file .entry))) (listed (now (targets .exit)) (now (rates .exit)) (now (counts .exit))) i)) ⌝ }
+    ensures shown { λ r. ⌜ ListsRows (modelOf (now (file .entry))) (listed (now (targets .exit)) (now (rates .exit)) (now (counts .exit))) ⌝ }
 {
     let states = reader::state_count(file);
     for i in 0..states {

@@ -12,7 +12,7 @@ use Rattle.definitions.specs.Vectors.{ONE, rewardShare, mix, firstVector
 use Rattle.definitions.specs.Level.{level}
 use Rattle.definitions.specs.Moment.{weightedMean, moment, modelLevel}
 
--- 1. Lists of states.
+-- 1. HoldsRows of states.
 
 -- the states below n that pass a test, highest first
 unfoldable pub falling : (ℕ → Bool) → ℕ → List ℕ
@@ -67,6 +67,10 @@ pub record ListsRow (m : Model) (i : ℕ) (l : List ℕ) : Type 0 where
   pub the-arrows : ListsArrows m i (others i l)
   pub diagonal : isIn i l ≡ true
   pub falls : (k : ℕ) → suc k < length l → getD l (suc k) 0 < getD l k 0
+
+-- all rows, as they are lent
+pub record ListsRows (m : Model) (a : Listing) : Type 0 where
+  pub row : (i : ℕ) → i < m .states → ListsRow m i (statesIn (m .states) a i)
 
 -- 3. The calculation with sums over the arrows alone, last first.
 

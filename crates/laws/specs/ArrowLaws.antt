@@ -16,15 +16,8 @@ use Rattle.definitions.specs.Level.{level}
 use Rattle.definitions.specs.Moment.{weightedMean, moment, modelLevel}
 use Rattle.definitions.specs.Arrows.{falling, isIn, others, addUp, isArrow, arrows, ListsArrows, isAdded, addedStates, ListsRow, arrowSum, arrowRate, arrowEntry, arrowMean, nextByArrows, UByArrows, levelByArrows, momentByArrows, SameByArrows}
 use Rattle.laws.specs.SumLaws.{sum-zero, sum-same, sum-none, sum-single, sum-first, sum-plus, sum-apart, largest-same}
-use Rattle.laws.specs.RowLaws.{neither}
+use Rattle.laws.specs.RowLaws.{neither, both}
 use Rattle.laws.specs.ChainLaws.{SameChain, getD-padded}
-
--- both tests hold
-both : (a b : Bool) → (a && b) ≡ true → (a ≡ true) × (b ≡ true)
-both true true h = (refl, refl)
-both true false h = absurd (let z : _≡_ {A = ℕ} 0 1 = cc in omega arith)
-both false true h = absurd (let z : _≡_ {A = ℕ} 0 1 = cc in omega arith)
-both false false h = absurd (let z : _≡_ {A = ℕ} 0 1 = cc in omega arith)
 
 -- a test is not both
 not-both : {t : Bool} → t ≡ true → t ≡ false → ⊥
@@ -45,8 +38,8 @@ add-up-same (x ∷ l) f g total same =
     ap (λ (y : ℕ). addUp (total + y) l f) (same x (ap (λ (b : Bool). b || isIn x l) (eq-eqb x x refl)))
     ∙ add-up-same l f g (total + g x) (λ j h. same j (ap (λ (b : Bool). eqb j x || b) h ∙ or-true (eqb j x)))
 
--- The law of order: a sum over a list of states below M without repetition does not depend on the list's order, and drops what is 0. It is the sum over all
--- states below M, where what the list leaves out is 0.
+-- The law of order: a sum over a list without repetition does not depend on its order, and drops what is 0. For it is the sum over all states below M, where
+-- what the list leaves out is 0.
 pub sum-over-list : (M : ℕ) (l : List ℕ) (f : ℕ → ℕ) (total : ℕ) → distinct l ≡ true → ((j : ℕ) → isIn j l ≡ true → j < M) → ((j : ℕ) → j < M → isIn j l ≡ false → f j ≡ 0) → addUp total l f ≡ total + sum M f
 unfolding distinct addUp isIn
 sum-over-list M [] f total once within rest = omega (arith, sum-none M f (λ j b. rest j b refl))
@@ -71,7 +64,18 @@ sum-over-list M (x ∷ l) f total once within rest =
           | no ne ↦ rw (ne-eqb j x ne) (rest j b (ap (λ (t : Bool). t || isIn j l) (ne-eqb j x ne) ∙ h))
         ]
 
--- the same, place by place of the list
+-- so two lists of the same states, each without repetition, add up to the same
+pub any-order : (M : ℕ) (l k : List ℕ) (f : ℕ → ℕ) (total : ℕ) → distinct l ≡ true → distinct k ≡ true → ((j : ℕ) → isIn j l ≡ isIn j k) → ((j : ℕ) → isIn j l ≡ true → j < M) → addUp total l f ≡ addUp total k f
+any-order M l k f total once again same within =
+    add-up-same l f listed-only total (λ j h. rw h refl)
+    ∙ sum-over-list M l listed-only total once within (λ j b h. rw h refl)
+    ∙ sym (sum-over-list M k listed-only total again (λ j h. within j (same j ∙ h)) (λ j b h. rw (same j ∙ h) refl))
+    ∙ sym (add-up-same k f listed-only total (λ j h. rw (same j ∙ h) refl))
+  where
+    listed-only : ℕ → ℕ
+    listed-only j = pick (isIn j l) (f j) 0
+
+-- the sum, place by place of the list
 pub add-up-places : (l : List ℕ) (f : ℕ → ℕ) (total : ℕ) → addUp total l f ≡ total + sum (length l) (λ k. f (getD l k 0))
 unfolding addUp
 add-up-places [] f total = omega (arith, sum-zero (λ k. f (getD [] k 0)))
@@ -276,14 +280,14 @@ module _ (m : Model) where
 -- 5. The arrays that hold the rows of a model.
 
 -- in row i the states that the row's mean adds, each with its entry of c
-pub record Lists (m : Model) (a : Listing) : Type 0 where
+pub record HoldsRows (m : Model) (a : Listing) : Type 0 where
   pub target-room : m .states * m .states ≤ length (a .targets)
   pub rate-room : m .states * m .states ≤ length (a .rates)
   pub count : (i : ℕ) → i < m .states → getD (a .counts) i 0 ≡ length (addedStates m i)
   pub target : (i k : ℕ) → i < m .states → k < length (addedStates m i) → targetAt (m .states) a i k ≡ getD (addedStates m i) k 0
   pub rate : (i k : ℕ) → i < m .states → k < length (addedStates m i) → rateAt (m .states) a i k ≡ c m i (getD (addedStates m i) k 0)
 
-module _ (m : Model) (a : Listing) (rows : Lists m a) where
+module _ (m : Model) (a : Listing) (rows : HoldsRows m a) where
   -- a row has a place for each of its states, and they are states
   pub count-max : (i : ℕ) → i < m .states → getD (a .counts) i 0 ≤ m .states
   unfolding addedStates

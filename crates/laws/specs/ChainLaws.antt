@@ -11,7 +11,7 @@ use borrow.Author.Tests.{eq-eqb, ne-eqb, lt-ltb}
 use Rattle.definitions.specs.Sums.{sum, pick}
 use Rattle.definitions.specs.File.{version, distributions}
 use Rattle.definitions.specs.Chain.{Model, atTime, jumpRate, rowSum, uniformRate, c, maxReward, Chain, chainOf, padded, sizesOf}
-use Rattle.laws.specs.SumLaws.{sum-diagonal, le-largest}
+use Rattle.laws.specs.SumLaws.{sum-changed, le-largest}
 use Rattle.laws.specs.ListLaws.{getD-firsts}
 
 -- one starting distribution in version 2, none in any other
@@ -52,7 +52,7 @@ pub row-sums-to-rate : (m : Model) (i : ℕ) → i < m .states → sum (m .state
 unfolding c
 row-sums-to-rate m i l =
     let split : sum (m .states) (c m i) ≡ rowSum m i + (uniformRate m - rowSum m i) =
-    unfold jumpRate rowSum in sum-diagonal (m .states) i (uniformRate m - rowSum m i) (m .transition i) l in
+    unfold jumpRate rowSum in sum-changed (m .states) i (uniformRate m - rowSum m i) (m .transition i) l in
     omega (arith, rowSum-le-rate m i l)
 
 -- f ≤ F
@@ -65,7 +65,7 @@ pub getD-padded : (M : ℕ) (v : ℕ → ℕ) (i : ℕ) → M ≤ 64 → i < M �
 unfolding padded
 getD-padded M v i h l = getD-firsts 0 64 (λ j. pick (ltb j M) (v j) 0) i (omega arith) ∙ rw (lt-ltb i M l)
 
--- at most k states have at most k × k entries of c
+-- at most k states have at most k × k places
 pub square-max : (M k : ℕ) → M ≤ k → M * M ≤ k * k
 square-max M k h = mul-le-mul h h
 

@@ -9,13 +9,8 @@ use borrow.Author.Tests.{leb-true, le-leb}
 use Rattle.definitions.specs.Weights.{MILLION, mode, weight, weightSum}
 use Rattle.definitions.specs.Level.{BILLION, tailBound, allowance, Passes, IsLevel, passes?, firstFrom, level}
 use Rattle.laws.specs.Rounding.{quotient-at-most, quotient-at-least}
+use Rattle.laws.specs.RowLaws.{both}
 use Rattle.laws.specs.WeightLaws.{mode-low, mode-high, weight-gone, weightSum-min}
-
-both : (a b : Bool) → (a && b) ≡ true → (a ≡ true) × (b ≡ true)
-both true true h = (refl, refl)
-both true false h = absurd (let z : _≡_ {A = ℕ} 0 1 = cc in omega arith)
-both false true h = absurd (let z : _≡_ {A = ℕ} 0 1 = cc in omega arith)
-both false false h = absurd (let z : _≡_ {A = ℕ} 0 1 = cc in omega arith)
 
 -- the computed test is the paper's
 pub passes-true : (X ε n : ℕ) → passes? X ε n ≡ true → Passes X ε n

@@ -1,4 +1,4 @@
--- Lists whose first entries are given by a function, over the type of the entries.
+-- HoldsRows whose first entries are given by a function, over the type of the entries.
 use Prim.Native.Nat.{ℕ, zero, suc, _+_, _-_, _≤_, _<_}
 use native.Mathlib.Omega.{arith}
 use native.Mathlib.Numerals.{add-one}

@@ -22,6 +22,13 @@ neither true false h = absurd (let z : _≡_ {A = ℕ} 0 1 = cc in omega arith)
 neither false true h = absurd (let z : _≡_ {A = ℕ} 0 1 = cc in omega arith)
 neither false false h = (refl, refl)
 
+-- both of two tests hold
+pub both : (a b : Bool) → (a && b) ≡ true → (a ≡ true) × (b ≡ true)
+both true true h = (refl, refl)
+both true false h = absurd (let z : _≡_ {A = ℕ} 0 1 = cc in omega arith)
+both false true h = absurd (let z : _≡_ {A = ℕ} 0 1 = cc in omega arith)
+both false false h = absurd (let z : _≡_ {A = ℕ} 0 1 = cc in omega arith)
+
 -- a number that is not outside is from low to high, and the other way about
 pub in-range : (low high x : ℕ) → outside low high x ≡ false → (low ≤ x) × (x ≤ high)
 in-range low high x h =

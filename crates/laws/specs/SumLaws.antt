@@ -127,22 +127,22 @@ sum-single (suc n) i f h others =
     ]
 
 -- what changes at one place alone changes the sum by that much
-pub sum-diagonal : (n i d : ℕ) (g : ℕ → ℕ) → i < n → sum n (λ j. pick (eqb j i) d (g j)) ≡ sum n (λ j. pick (eqb j i) 0 (g j)) + d
+pub sum-changed : (n i d : ℕ) (g : ℕ → ℕ) → i < n → sum n (λ j. pick (eqb j i) d (g j)) ≡ sum n (λ j. pick (eqb j i) 0 (g j)) + d
 unfolding sum
-sum-diagonal zero i d g l = absurd (omega arith)
-sum-diagonal (suc n) i d g l =
+sum-changed zero i d g l = absurd (omega arith)
+sum-changed (suc n) i d g l =
     elim (ℕ-discrete n i) [
       | yes e ↦
           rw (eq-eqb n i e)
           (omega (arith, sum-same n (λ j. pick (eqb j i) d (g j)) (λ j. pick (eqb j i) 0 (g j)) (λ j b. rw (ne-eqb j i (omega arith)))))
-      | no ne ↦ rw (ne-eqb n i ne) (omega (arith, sum-diagonal n i d g (omega arith)))
+      | no ne ↦ rw (ne-eqb n i ne) (omega (arith, sum-changed n i d g (omega arith)))
     ]
 
 -- one term apart
 pub sum-apart : (n i : ℕ) (f : ℕ → ℕ) → i < n → sum n f ≡ f i + sum n (λ j. pick (eqb j i) 0 (f j))
 sum-apart n i f l =
     sum-same n f (λ j. pick (eqb j i) (f i) (f j)) (λ j b. elim (ℕ-discrete j i) [ yes e ↦ rw (eq-eqb j i e) (ap f e) | no ne ↦ rw (ne-eqb j i ne) refl ])
-    ∙ sum-diagonal n i (f i) f l
+    ∙ sum-changed n i (f i) f l
     ∙ omega arith
 
 -- the first term apart

@@ -59,8 +59,8 @@ fn add_terms(sizes: Sizes, w: u64, table: &[[u64; 64]; 9], cells: &mut [u64])
     }
 }
 
-// The same where the level is not below n, with w(n) from a row of weights. Past the level the sums stay, and where w(n) is 0,
-// since its terms are 0.
+// The same up to the level, with w(n) from a row of weights; past the level the sums stay. A weight of 0 has terms of 0, and
+// they are not worked out.
 fn add_up_to_level(
     sizes: Sizes,
     n: u64,

@@ -8,7 +8,7 @@ use Rattle.definitions.specs.Sums.{sum}
 use Rattle.definitions.specs.Chain.{Model, Chain, Listing, atTime, maxReward, chainOf, padded, arrays, sizesOf}
 use Rattle.laws.specs.SumLaws.{sum-same}
 use Rattle.laws.specs.ChainLaws.{SameChain, rate-at, sizes-at}
-use Rattle.laws.specs.ArrowLaws.{Lists, count-max, target-max, arrays-same}
+use Rattle.laws.specs.ArrowLaws.{HoldsRows, count-max, target-max, arrays-same}
 use Rattle.laws.specs.VectorLaws.{Stochastic}
 use Rattle.laws.specs.Acceptance.{WithinLimits, stochastic}
 use Rattle.vectors.specs.Ready.{Ready}
@@ -27,7 +27,7 @@ stochastic-same a b e s =
 -- sizes and arrays that hold a model's chain
 pub record Held (m : Model) (z : Sizes) (a : Listing) (f : List ℕ) : Type 0 where
   pub sizes : z ≡ sizesOf m
-  pub rows : Lists m a
+  pub rows : HoldsRows m a
   pub rewards : f ≡ padded (m .states) (m .reward)
 
 -- what the arrays hold is the model's chain

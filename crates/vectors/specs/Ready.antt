@@ -22,7 +22,7 @@ pub record Placed (M : ℕ) (a : Listing) : Type 0 where
   pub count-max : (i : ℕ) → i < M → getD (a .counts) i 0 ≤ M
   pub target-max : (i k : ℕ) → i < M → k < getD (a .counts) i 0 → targetAt M a i k < M
 
--- so are c and E
+-- f, c and E are within document 01's limits, and c stands in such places
 pub record Ready (z : Sizes) (a : Listing) (f : List ℕ) : Type 0 where
   pub rewards : RewardsReady z f
   pub places : Placed (z .states) a
@@ -40,7 +40,7 @@ pub record Indices (n r : ℕ) : Type 0 where
   pub moment-max : r ≤ 8
   pub some : 0 < n + r
 
--- a product of row i of c against v: that of place k
+-- the product of place k of row i and v
 abbrev pub productAt : ℕ → Listing → List ℕ → ℕ → ℕ → ℕ
 productAt M a v i k = rateAt M a i k * getD v (targetAt M a i k) 0
 

@@ -1,7 +1,7 @@
 // The reward vectors U(n,r): a number of ticks for each of 64 states.
 //
 // The rows of c are lent, M places for each, row i from i * M on: in a place stand a state and its entry of c. A row uses the
-// first of its places, counts[i] of them, for the states that are not left out, highest first (crate arrows). A vector goes in
+// first of its places, counts[i] of them, for the states with a rate above 0 and the diagonal, highest first (crate arrows). A vector goes in
 // by value and the new one comes back: no vector changes while it is read.
 ghost use mathlib.Core.Path.{_≡_};
 ghost use mathlib.Core.List.{List};

@@ -13,7 +13,7 @@ use Rattle.definitions.specs.Arrows.{addedStates}
 use Rattle.laws.specs.ListLaws.{length-over, over-none, over-store}
 use Rattle.laws.specs.ChainLaws.{getD-padded, rowSum-le-rate}
 use Rattle.arrows.specs.Rows.{rowsStored}
-use Rattle.arrows.specs.RowLaws.{added-fits, entries-fit, none-stored, length-stored, stored-more, rows-listed, row-shown}
+use Rattle.arrows.specs.RowLaws.{added-fits, entries-fit, none-stored, length-stored, stored-more, rows-listed, rows-shown}
 use Rattle.arrows.proofs.list_rows.Statement.{statement}
 use Rattle.arrows.proofs.list_rows.Tie as tie
 
@@ -121,7 +121,7 @@ returns d = (
     in-rates d,
     (
       in-counts d,
-      row-shown (file d) (listed (d .before .loop .targets) (d .before .loop .rates) (d .before .loop .counts))
+      rows-shown (file d) (listed (d .before .loop .targets) (d .before .loop .rates) (d .before .loop .counts))
           (rows-listed (file d) (begin d .args .targets .now) (begin d .args .rates .now) (begin d .args .counts .now) _ _ _ (begin d .pre .1 .0 .0) (begin d .pre .1 .0 .1) (in-targets d) (in-rates d) (in-counts d)),
     ),
   ),
