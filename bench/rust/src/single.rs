@@ -42,8 +42,8 @@ impl Case {
         self.file[4].into()
     }
 
-    /// M × M × R × N, the number of products c(i,j) × U where no entry of c is 0. Of the others only `every` and `plain` make
-    /// all of them.
+    /// M × M × R × N, the number of products c(i,j) × U, those with 0 among them. A line that goes over the arrows makes fewer on
+    /// a sparse file.
     fn products(&self) -> u64 {
         self.states() * self.states() * self.highest() * self.level
     }
