@@ -102,7 +102,7 @@ module _ (row : ℕ → List ℕ) (M : ℕ) (fits : (i : ℕ) → length (row i)
   length-stored (suc n) = length-sets (rowsStored row M n l) (n * M) (row n) ∙ length-stored n
 
   -- place k of row i
-  pub getD-stored : (n i k : ℕ) → n * M ≤ length l → i < n → k < length (row i) → getD (rowsStored row M n l) (i * M + k) 0 ≡ getD (row i) k 0
+  getD-stored : (n i k : ℕ) → n * M ≤ length l → i < n → k < length (row i) → getD (rowsStored row M n l) (i * M + k) 0 ≡ getD (row i) k 0
   unfolding rowsStored
   getD-stored zero i k room h b = absurd (omega arith)
   getD-stored (suc n) i k room h b =

@@ -19,7 +19,7 @@ use Rattle.laws.specs.SumLaws.{sum-zero, sum-same, sum-none, sum-single,
 use Rattle.laws.specs.RowLaws.{neither, both}
 use Rattle.laws.specs.ChainLaws.{SameChain, getD-padded}
 
--- a test is not both
+-- no test is both
 not-both : {t : Bool} → t ≡ true → t ≡ false → ⊥
 not-both h q = let z : _≡_ {A = ℕ} 0 1 = cc in omega arith
 
@@ -131,7 +131,7 @@ module _ (passes : ℕ → Bool) where
       more l false h = omega arith
 
   -- each is below n
-  pub falling-below : (n k : ℕ) → k < length (falling passes n) → getD (falling passes n) k 0 < n
+  falling-below : (n k : ℕ) → k < length (falling passes n) → getD (falling passes n) k 0 < n
   unfolding falling
   falling-below zero k h = absurd (omega arith)
   falling-below (suc n) k h = below (falling passes n) (passes n) (falling-below n) k h
@@ -208,7 +208,7 @@ module _ (m : Model) (i : ℕ) where
       rw (tests .0) (omega (arith, ltb-false 0 (m .transition i j) (tests .1)))
 
   -- a sum over the added states is the sum over all states of what is 0 where c is
-  pub sum-added : (f : ℕ → ℕ) → ((j : ℕ) → c m i j ≡ 0 → f j ≡ 0) → addUp 0 (addedStates m i) f ≡ sum (m .states) f
+  sum-added : (f : ℕ → ℕ) → ((j : ℕ) → c m i j ≡ 0 → f j ≡ 0) → addUp 0 (addedStates m i) f ≡ sum (m .states) f
   unfolding addedStates
   sum-added f rest = sum-falling (isAdded m i) (m .states) f (λ j b h. rest j (entry-left-out j h))
 
