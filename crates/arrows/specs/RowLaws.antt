@@ -8,12 +8,13 @@ use mathlib.Core.Path.{_≡_, refl, _∙_, ap}
 use mathlib.Core.Bool.{Bool, true, false, _||_}
 use mathlib.Core.List.{List, [], _∷_, map}
 use lib.Dec.{eqb, ltb}
-use lib.ListN.{length, getD, set, drop, length-set, length-drop}
-use lib.Seq.{sets, length-sets, length-take-le, getD-take, getD-drop, getD-set-same, getD-set-other, ext-getD}
+use lib.ListN.{length, getD, set, drop, length-set, length-drop, length-map}
+use lib.Seq.{sets, length-sets, length-take-le, getD-take, getD-drop, ext-getD}
 use Rattle.definitions.specs.Sums.{over, pick}
 use Rattle.definitions.specs.Chain.{Model, Listing, rowSum, uniformRate, c, listed}
 use Rattle.definitions.specs.Arrows.{falling, isAdded, addedStates, statesIn, ListsRows}
-use Rattle.laws.specs.ListLaws.{getD-over}
+use Rattle.laws.specs.ListLaws.{getD-map, getD-over}
+use Rattle.laws.specs.ByteLaws.{sets-before, sets-inside}
 use Rattle.laws.specs.ArrowLaws.{falling-takes, falling-leaves, length-falling, row-listed, HoldsRows}
 use Rattle.arrows.specs.Rows.{rowsStored, DownTo}
 
@@ -76,21 +77,6 @@ module _ (m : Model) (i first : ℕ) (targets₀ rates₀ : List ℕ) where
             same-rates = length-set rates (first + k) x ∙ before .same-rates;
           }
 
--- a run of stores: what stands before it stays, and its own entries stand in it
-getD-before : (v l : List ℕ) (p q : ℕ) → q < p → getD (sets l p v) q 0 ≡ getD l q 0
-getD-before [] l p q h = refl
-getD-before (x ∷ v) l p q h = getD-before v (set l p x) (suc p) q (omega arith) ∙ getD-set-other l p q x 0 (λ e. omega (arith, e))
-
-getD-inside : (v l : List ℕ) (p k : ℕ) → p + length v ≤ length l → k < length v → getD (sets l p v) (p + k) 0 ≡ getD v k 0
-getD-inside [] l p k room h = absurd (omega arith)
-getD-inside (x ∷ v) l p zero room h =
-    ap (λ (q : ℕ). getD (sets (set l p x) (suc p) v) q 0) (omega arith)
-    ∙ getD-before v (set l p x) (suc p) p (omega arith)
-    ∙ getD-set-same l p x 0 (omega arith)
-getD-inside (x ∷ v) l p (suc k) room h =
-    ap (λ (q : ℕ). getD (sets (set l p x) (suc p) v) q 0) (omega arith)
-    ∙ getD-inside v (set l p x) (suc p) k (omega (arith, room, length-set l p x)) (omega arith)
-
 module _ (row : ℕ → List ℕ) (M : ℕ) (fits : (i : ℕ) → length (row i) ≤ M) (l : List ℕ) where
   pub none-stored : l ≡ rowsStored row M 0 l
   unfolding rowsStored
@@ -107,9 +93,9 @@ module _ (row : ℕ → List ℕ) (M : ℕ) (fits : (i : ℕ) → length (row i)
   getD-stored zero i k room h b = absurd (omega arith)
   getD-stored (suc n) i k room h b =
       elim (ℕ-discrete i n) [
-        | yes e ↦ rw e (getD-inside (row n) (rowsStored row M n l) (n * M) k (omega (arith, room, length-stored n, fits n)) (rw e at b))
+        | yes e ↦ rw e (sets-inside (rowsStored row M n l) (n * M) (row n) k (omega (arith, room, length-stored n, fits n)) (rw e at b))
         | no ne ↦
-            getD-before (row n) (rowsStored row M n l) (n * M) (i * M + k) (omega (arith, b, fits i, mul-le-mul-right M (earlier ne)))
+            sets-before (rowsStored row M n l) (n * M) (row n) (i * M + k) (omega (arith, b, fits i, mul-le-mul-right M (earlier ne)))
             ∙ getD-stored n i k (omega (arith, room)) (omega arith) b
       ]
     where
@@ -129,17 +115,8 @@ module _ (m : Model) where
   abbrev entries : ℕ → List ℕ
   entries i = map (c m i) (addedStates m i)
 
-  length-map : (f : ℕ → ℕ) (l : List ℕ) → length (map f l) ≡ length l
-  length-map f [] = refl
-  length-map f (x ∷ l) = ap suc (length-map f l)
-
-  getD-map : (f : ℕ → ℕ) (l : List ℕ) (k : ℕ) → k < length l → getD (map f l) k 0 ≡ f (getD l k 0)
-  getD-map f [] k h = absurd (omega arith)
-  getD-map f (x ∷ l) zero h = refl
-  getD-map f (x ∷ l) (suc k) h = getD-map f l k (omega arith)
-
   pub entries-fit : (i : ℕ) → length (map (c m i) (addedStates m i)) ≤ m .states
-  entries-fit i = omega (arith, length-map (c m i) (addedStates m i), added-fits i)
+  entries-fit i = omega (arith, length-map (addedStates m i) (c m i), added-fits i)
 
   -- with every row stored, the arrays hold the rows
   pub rows-listed : (targets rates counts t r k : List ℕ) → m .states * m .states ≤ length targets → m .states * m .states ≤ length rates → t ≡ rowsStored (addedStates m) (m .states) (m .states) targets → r ≡ rowsStored (λ i. map (c m i) (addedStates m i)) (m .states) (m .states) rates → k ≡ over (m .states) (λ i. length (addedStates m i)) counts → HoldsRows m (listed t r k)
@@ -152,8 +129,8 @@ module _ (m : Model) where
         rate =
             λ i p l b.
             ap (λ (x : List ℕ). getD x (i * m .states + p) 0) er
-            ∙ getD-stored entries (m .states) entries-fit rates (m .states) i p rroom l (omega (arith, b, length-map (c m i) (addedStates m i)))
-            ∙ getD-map (c m i) (addedStates m i) p b;
+            ∙ getD-stored entries (m .states) entries-fit rates (m .states) i p rroom l (omega (arith, b, length-map (addedStates m i) (c m i)))
+            ∙ getD-map (c m i) (addedStates m i) p 0 0 b;
       }
 
   -- and each of them is shown to be what document 02 asks for

@@ -4,7 +4,7 @@ use Prim.Native.Nat.{ℕ, zero, suc, _+_, _*_, _-_, _/_, _≤_, _<_, max}
 use native.Mathlib.Omega.{arith}
 use native.Mathlib.Decide.{ℕ-discrete, decLt}
 use mathlib.Core.Path.{_≡_, refl, sym, _∙_, ap, ap₂}
-use mathlib.Core.Bool.{Bool, true, false, not, _&&_, _||_, or-true}
+use mathlib.Core.Bool.{Bool, true, false, not, _&&_, _||_, or-true, true≢false}
 use mathlib.Core.List.{List, [], _∷_}
 use lib.Dec.{eqb, ltb}
 use lib.ListN.{length, getD}
@@ -18,10 +18,6 @@ use Rattle.definitions.specs.Arrows.{falling, isIn, others, addUp, isArrow, arr
 use Rattle.laws.specs.SumLaws.{sum-zero, sum-same, sum-none, sum-single, sum-first, sum-plus, sum-apart, largest-same}
 use Rattle.laws.specs.RowLaws.{neither, both}
 use Rattle.laws.specs.ChainLaws.{SameChain, getD-padded}
-
--- no test is both
-not-both : {t : Bool} → t ≡ true → t ≡ false → ⊥
-not-both h q = let z : _≡_ {A = ℕ} 0 1 = cc in omega arith
 
 -- 1. The order of a sum.
 
@@ -55,7 +51,7 @@ sum-over-list M (x ∷ l) f total once within rest =
     apart j = pick (eqb j x) 0 (f j)
 
     not-first : (j : ℕ) → isIn j l ≡ true → j ≡ x → ⊥
-    not-first j h e = not-both (sym (ap (λ (y : ℕ). isIn y l) e) ∙ h) (not-true (isIn x l) (tests .0))
+    not-first j h e = true≢false (sym h ∙ ap (λ (y : ℕ). isIn y l) e ∙ not-true (isIn x l) (tests .0))
 
     left-out : (j : ℕ) → j < M → isIn j l ≡ false → apart j ≡ 0
     left-out j b h =
@@ -299,32 +295,24 @@ module _ (m : Model) (a : Listing) (rows : HoldsRows m a) where
       let inside : k < length (addedStates m i) = omega (arith, h, rows .count i l) in
       rw (rows .target i k l inside) (falling-below (isAdded m i) (m .states) k inside)
 
+  -- what the places of row i add up to, one after another, is a sum in S-7's order: of any g of a state and its entry
+  pub row-in-order : (g : ℕ → ℕ → ℕ) (i : ℕ) → i < m .states → sum (getD (a .counts) i 0) (λ k. g (targetAt (m .states) a i k) (rateAt (m .states) a i k)) ≡ addUp 0 (addedStates m i) (λ j. g j (c m i j))
+  row-in-order g i l =
+      ap (λ (n : ℕ). sum n (λ k. g (targetAt (m .states) a i k) (rateAt (m .states) a i k))) (rows .count i l)
+      ∙ sum-same (length (addedStates m i)) _ (λ k. g (getD (addedStates m i) k 0) (c m i (getD (addedStates m i) k 0))) (λ k b. ap₂ g (rows .target i k l b) (rows .rate i k l b))
+      ∙ sym (add-up-places (addedStates m i) (λ j. g j (c m i j)) 0 ∙ omega arith)
+
   -- c(i,j) is what the places of row i have for j
   entry-is : (i j : ℕ) → i < m .states → j < m .states → sum (getD (a .counts) i 0) (λ k. pick (eqb (targetAt (m .states) a i k) j) (rateAt (m .states) a i k) 0) ≡ c m i j
   entry-is i j li lj =
-      ap (λ (n : ℕ). sum n (λ k. pick (eqb (targetAt (m .states) a i k) j) (rateAt (m .states) a i k) 0)) (rows .count i li)
-      ∙ sum-same (length l) _ (λ k. at (getD l k 0)) (λ k b. ap₂ (λ (t x : ℕ). pick (eqb t j) x 0) (rows .target i k li b) (rows .rate i k li b))
-      ∙ sym (add-up-places l at 0 ∙ omega arith)
-      ∙ sum-added m i at (λ t none. idle t none (eqb t j))
-      ∙ sum-single (m .states) j at lj (λ t b other. rw (ne-eqb t j other) refl)
+      row-in-order (λ t x. pick (eqb t j) x 0) i li
+      ∙ sum-added m i (λ t. pick (eqb t j) (c m i t) 0) (λ t none. idle t none (eqb t j))
+      ∙ sum-single (m .states) j (λ t. pick (eqb t j) (c m i t) 0) lj (λ t b other. rw (ne-eqb t j other) refl)
       ∙ rw (eq-eqb j j refl) refl
     where
-      l : List ℕ
-      l = addedStates m i
-
-      at : ℕ → ℕ
-      at t = pick (eqb t j) (c m i t) 0
-
       idle : (t : ℕ) → c m i t ≡ 0 → (b : Bool) → pick b (c m i t) 0 ≡ 0
       idle t none true = none
       idle t none false = refl
-
-  -- what row i adds of v, place after place, is the sum of S-7's order
-  pub places-in-order : (v : ℕ → ℕ) (i : ℕ) → i < m .states → sum (getD (a .counts) i 0) (λ k. rateAt (m .states) a i k * v (targetAt (m .states) a i k)) ≡ addUp 0 (addedStates m i) (λ j. c m i j * v j)
-  places-in-order v i l =
-      ap (λ (n : ℕ). sum n (λ k. rateAt (m .states) a i k * v (targetAt (m .states) a i k))) (rows .count i l)
-      ∙ sum-same (length (addedStates m i)) _ (λ k. c m i (getD (addedStates m i) k 0) * v (getD (addedStates m i) k 0)) (λ k b. ap₂ (λ (t x : ℕ). x * v t) (rows .target i k l b) (rows .rate i k l b))
-      ∙ sym (add-up-places (addedStates m i) (λ j. c m i j * v j) 0 ∙ omega arith)
 
   -- the arrays hold the model's chain
   pub arrays-same : (f : List ℕ) → f ≡ padded (m .states) (m .reward) → m .states ≤ 64 → SameChain (arrays (sizesOf m) a f) (chainOf m)

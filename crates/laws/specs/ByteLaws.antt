@@ -5,8 +5,8 @@ use native.Mathlib.Nat.{add-assoc, pow-suc, pow-le-pow-right}
 use native.Mathlib.Numerals.{add-one}
 use mathlib.Core.Path.{_≡_, refl, sym, _∙_, ap, ap₂}
 use mathlib.Core.List.{List, [], _∷_, _++_, append-assoc}
-use lib.ListN.{length, getD, take, drop, set, length-append}
-use lib.Seq.{sets, sets-eq, getD-at, getD-drop, getD-set-other, length-take-le}
+use lib.ListN.{length, getD, take, drop, set, length-set, length-append}
+use lib.Seq.{sets, sets-eq, getD-at, getD-drop, getD-set-same, getD-set-other, length-take-le}
 use Rattle.definitions.specs.Bytes.{big, bytesOf}
 use Rattle.laws.specs.Rounding.{quotient-remainder, quotient-below}
 
@@ -40,7 +40,7 @@ big-same zero at s t h = refl
 big-same (suc width) at s t h =
     ap₂ (λ (a b : ℕ). a * 256 + b) (big-same width at s t (λ i b. h i (omega arith))) (h width (omega arith))
 
--- what stands before a run of stores, and after it, is as it was
+-- what stands before a run of stores, and after it, is as it was; in it stand its own entries
 pub sets-before : (l : List ℕ) (i : ℕ) (vs : List ℕ) (k : ℕ) → k < i → getD (sets l i vs) k 0 ≡ getD l k 0
 sets-before l i [] k h = refl
 sets-before l i (v ∷ vs) k h = sets-before (set l i v) (suc i) vs k (omega arith) ∙ getD-set-other l i k v 0 (λ e. omega arith)
@@ -48,6 +48,16 @@ sets-before l i (v ∷ vs) k h = sets-before (set l i v) (suc i) vs k (omega ari
 pub sets-after : (l : List ℕ) (i : ℕ) (vs : List ℕ) (k : ℕ) → i + length vs ≤ k → getD (sets l i vs) k 0 ≡ getD l k 0
 sets-after l i [] k h = refl
 sets-after l i (v ∷ vs) k h = sets-after (set l i v) (suc i) vs k (omega arith) ∙ getD-set-other l i k v 0 (λ e. omega arith)
+
+pub sets-inside : (l : List ℕ) (i : ℕ) (vs : List ℕ) (k : ℕ) → i + length vs ≤ length l → k < length vs → getD (sets l i vs) (i + k) 0 ≡ getD vs k 0
+sets-inside l i [] k room h = absurd (omega arith)
+sets-inside l i (v ∷ vs) zero room h =
+    ap (λ (p : ℕ). getD (sets (set l i v) (suc i) vs) p 0) (omega arith)
+    ∙ sets-before (set l i v) (suc i) vs i (omega arith)
+    ∙ getD-set-same l i v 0 (omega arith)
+sets-inside l i (v ∷ vs) (suc k) room h =
+    ap (λ (p : ℕ). getD (sets (set l i v) (suc i) vs) p 0) (omega arith)
+    ∙ sets-inside (set l i v) (suc i) vs k (omega (arith, room, length-set l i v)) (omega arith)
 
 pub length-bytes : (width n : ℕ) → length (bytesOf width n) ≡ width
 unfolding bytesOf

@@ -4,7 +4,7 @@ use native.Mathlib.Omega.{arith}
 use native.Mathlib.Numerals.{add-one}
 use native.Mathlib.Decide.{ℕ-discrete, decLt}
 use mathlib.Core.Path.{_≡_, refl, sym, _∙_, ap, ap₂}
-use mathlib.Core.List.{List, [], _∷_, _++_, append-assoc, append-nil}
+use mathlib.Core.List.{List, [], _∷_, _++_, map, append-assoc, append-nil}
 use lib.ListN.{length, getD, drop, set, length-append, length-drop, length-set, List·getD-append, drop-of-length-le}
 use lib.Seq.{drop-cons, set-at, getD-at, getD-append-add, getD-drop, drop-set-lt, getD-set-same, ext-getD}
 use Rattle.definitions.specs.Sums.{firsts, over}
@@ -29,6 +29,12 @@ module _ {A : Type 0} where
   unfolding firsts
   firsts-same zero f g h = refl
   firsts-same (suc n) f g h = ap₂ (λ (l : List A) (x : A). l ++ (x ∷ [])) (firsts-same n f g (λ i l. h i (omega arith))) (h n (omega arith))
+
+  -- an entry of a mapped list, whatever stands past its end
+  pub getD-map : {B : Type 0} (f : A → B) (l : List A) (k : ℕ) (d : A) (e : B) → k < length l → getD (map f l) k e ≡ f (getD l k d)
+  getD-map f [] k d e h = absurd (omega arith)
+  getD-map f (x ∷ l) zero d e h = refl
+  getD-map f (x ∷ l) (suc k) d e h = getD-map f l k d e (omega arith)
 
   pub over-none : (f : ℕ → A) (l : List A) → over 0 f l ≡ l
   unfolding over firsts
