@@ -1,8 +1,8 @@
 -- "Hand-checked files": the ten starred entries, as one list and one statement over it, B's moments being those of document 02, S-1.
 -- Beside them, and apart from the ten, the average of B, the places "Where hand solutions go wrong", the last quotient's rounding, B with
--- lists of times (document 02, S-3), and what divisions leave (S-4).
-use Prim.Native.Nat.{ℕ, _<_}
-use mathlib.Core.List.{List, [], _∷_}
+-- lists of times (document 02, S-3), what divisions leave (S-4), and how many row means are taken (S-8).
+use Prim.Native.Nat.{ℕ, _+_, _<_}
+use mathlib.Core.List.{List, [], _∷_, _++_}
 use mathlib.Core.Logic.{_≢_}
 use mathlib.Core.Path.{_≡_, refl}
 use native.Mathlib.Omega.{arith}
@@ -13,11 +13,11 @@ use Rattle.definitions.specs.Bytes.{big, bytesOf}
 use Rattle.definitions.specs.File.{withTime, distributions}
 use Rattle.definitions.specs.Chain.{Model, modelOf, Chain, jumpRate, rowSum, uniformRate, c, maxReward, jumpMillionths, chainOf}
 use Rattle.definitions.specs.Rules.{accepted, refused, framing, quantities, fallsUpTo, listing, jumps, room, rows, seriesRows, firstHeld, judgement, seriesJudgement}
-use Rattle.definitions.specs.Vectors.{ONE, rowMean, rewardShare, mix, nextEntry, firstVectors, nextVectors, U}
+use Rattle.definitions.specs.Vectors.{ONE, rowMean, rewardShare, mix, nextEntry, firstVectors, nextVectors, U, rowMeans}
 use Rattle.definitions.specs.Weights.{mode, rightward, leftward, weight, weightSum}
-use Rattle.definitions.specs.Level.{tailBound, allowance, passes?, firstFrom, level}
-use Rattle.definitions.specs.Moment.{term, weighted, nearest, lastQuotient, weightedMean, moment, figureOf, cell, modelLevel, outcome, cellsAfter}
-use Rattle.definitions.specs.Series.{levelAt, levelsAfter, blocksAfter}
+use Rattle.definitions.specs.Level.{tailBound, allowance, passes?, firstFrom, level, lastLevel}
+use Rattle.definitions.specs.Moment.{term, weighted, nearest, lastQuotient, weightedMean, moment, figureOf, cell, modelLevel, runTo, outcome, cellsAfter, countAfter}
+use Rattle.definitions.specs.Series.{levelAt, seriesOutcome, levelsAfter, blocksAfter}
 use Rattle.definitions.specs.Maybe.{none, given}
 use Rattle.definitions.specs.Remainders.{meanOf, shareOf, restsAt, restsOf, remaindersOf, numberAfter}
 use Rattle.definitions.specs.Fraction.{Same, ratio, total, power}
@@ -56,7 +56,7 @@ pub data Entry : Type 0 where
 -- what an entry says of the definitions
 abbrev pub Holds : Entry → Type 0
 Holds (calculated s N moments) =
-    (outcome s (length moments) ≡ accepted N) × (cellsAfter (accepted N) s (replicate (length moments) 0) ≡ moments)
+    (outcome s (length moments) ≡ accepted (runTo (modelOf s) N)) × (cellsAfter (accepted (runTo (modelOf s) N)) s (replicate (length moments) 0) ≡ moments)
 Holds (stopped s k) = judgement s lentCells ≡ refused k
 Holds (numbers paper ours) = ours ≡ paper
 
@@ -130,11 +130,30 @@ sheet-of-B = refl
 
 -- B with the times 1 and 2: a level and a block for each, the first those of B itself; what is lent past them stays
 pub series-of-B :
-    (seriesJudgement fileB (1 ∷ 2 ∷ []) 3 9 ≡ accepted tt)
-    × (levelsAfter (accepted tt) fileB (1 ∷ 2 ∷ []) (replicate 3 7) ≡ 3 ∷ 4 ∷ 7 ∷ [])
-    × (blocksAfter (accepted tt) fileB (1 ∷ 2 ∷ []) (replicate 9 7) ≡ 718750000000 ∷ 612500000000 ∷ 281250000000 ∷ 175000000000 ∷ 628571428571 ∷ 476190476190 ∷ 371428571428 ∷ 219047619047 ∷ 7 ∷ [])
-unfolding sum largest anyAbove firsts over blocks big distributions jumpRate rowSum uniformRate c maxReward jumpMillionths framing quantities fallsUpTo listing jumps room seriesRows firstHeld seriesJudgement rowMean rewardShare mix nextEntry firstVectors nextVectors U mode rightward leftward weight weightSum tailBound allowance passes? firstFrom level term weighted nearest lastQuotient weightedMean moment figureOf cell modelLevel levelAt levelsAfter blocksAfter
+    (seriesOutcome fileB (1 ∷ 2 ∷ []) 3 9 ≡ accepted 16)
+    × (levelsAfter (accepted 16) fileB (1 ∷ 2 ∷ []) (replicate 3 7) ≡ 3 ∷ 4 ∷ 7 ∷ [])
+    × (blocksAfter (accepted 16) fileB (1 ∷ 2 ∷ []) (replicate 9 7) ≡ 718750000000 ∷ 612500000000 ∷ 281250000000 ∷ 175000000000 ∷ 628571428571 ∷ 476190476190 ∷ 371428571428 ∷ 219047619047 ∷ 7 ∷ [])
+unfolding sum largest anyAbove firsts over blocks big distributions jumpRate rowSum uniformRate c maxReward jumpMillionths framing quantities fallsUpTo listing jumps room seriesRows firstHeld rowMean rewardShare mix nextEntry firstVectors nextVectors U rowMeans mode rightward leftward weight weightSum tailBound allowance passes? firstFrom level term weighted nearest lastQuotient weightedMean moment figureOf cell modelLevel levelAt seriesOutcome levelsAfter blocksAfter
 series-of-B = (refl, refl, refl)
+
+-- how many row means a run takes: A 1 × 1 × 1, B 3 × 2 × 2. A number that is lent for the count holds it after an acceptance, and stays after a refusal.
+pub counted :
+    (outcome fileA 1 ≡ accepted (record { level = 1; means = 1 }))
+    × (outcome fileB 4 ≡ accepted (record { level = 3; means = 12 }))
+    × (countAfter (accepted 12) 7 ≡ 12)
+    × (countAfter (refused 12) 7 ≡ 7)
+unfolding sum largest anyAbove big distributions jumpRate rowSum uniformRate jumpMillionths framing quantities jumps room rows firstHeld rowMeans mode rightward leftward weight weightSum tailBound allowance passes? firstFrom level modelLevel outcome
+counted = (refl, refl, refl, refl)
+
+-- N, M and R each count once
+pub counts-apart : firsts 3 (λ k. rowMeans (5 + k) 3 2) ++ firsts 3 (λ k. rowMeans 5 (3 + k) 2) ++ firsts 3 (λ k. rowMeans 5 3 (2 + k)) ≡ 30 ∷ 36 ∷ 42 ∷ 30 ∷ 40 ∷ 50 ∷ 30 ∷ 45 ∷ 60 ∷ []
+unfolding firsts rowMeans
+counts-apart = refl
+
+-- the bound of the level, from q alone: 53 for B, q being 1, and still where q is nearly 2
+pub bounds : (lastLevel XB ≡ 53) × (lastLevel 1999999 ≡ 53) × (lastLevel 2000000 ≡ 55) × (lastLevel 256000000 ≡ 563) × (lastLevel 999999 ≡ 51)
+unfolding sum largest big distributions jumpRate rowSum uniformRate jumpMillionths mode
+bounds = (refl, refl, refl, refl, refl)
 
 -- B with the time 4,294,901,244, its bytes FF FE FD FC
 pub time-in-B : withTime fileB 0xFFFEFDFC ≡ set (set (set (set fileB 9 0xFF) 10 0xFE) 11 0xFD) 12 0xFC

@@ -38,3 +38,7 @@ firstFrom X ε (suc tries) n = elim (passes? X ε n) [ true ↦ n | false ↦ fi
 -- N. That it is the least n that passes is proved in the crate laws, for every X and ε of an accepted file.
 unfoldable pub level : ℕ → ℕ → ℕ
 level X ε = firstFrom X ε 1024 0
+
+-- 2 × m + 51: the level is at most this, whatever the tolerance (document 02, S-8)
+abbrev pub lastLevel : ℕ → ℕ
+lastLevel X = 2 * mode X + 51

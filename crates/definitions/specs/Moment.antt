@@ -1,15 +1,16 @@
--- "Moment": A, the last quotient (rounded as document 02, S-1, has it), the start figure (S-5), the cells after a call, and its outcome.
-use Prim.Native.Nat.{ℕ, suc, _+_, _*_, _-_, _/_, _%_}
+-- "Moment": A, the last quotient (rounded as document 02, S-1, has it), the start figure (S-5), the cells after a call, and its outcome, with the count of row means (S-8).
+use Prim.Native.Nat.{ℕ, suc, _+_, _*_, _-_, _/_, _%_, _≤_}
 use mathlib.Core.List.{List}
 use lib.Dec.{ltb}
+use Rattle.definitions.specs.declared.Run.{Run}
 use Rattle.definitions.specs.declared.Outcome.{Outcome}
 use Rattle.definitions.specs.declared.Outcome.the-variants as ended
 use Rattle.definitions.specs.Sums.{sum, over, pick}
 use Rattle.definitions.specs.Chain.{Model, modelOf, chainOf, jumpMillionths}
 use Rattle.definitions.specs.Rules.{Answer, accepted, refused, blockSize, rows, firstHeld}
-use Rattle.definitions.specs.Vectors.{ONE, U}
+use Rattle.definitions.specs.Vectors.{ONE, U, rowMeans}
 use Rattle.definitions.specs.Weights.{MILLION, weight, weightSum}
-use Rattle.definitions.specs.Level.{level}
+use Rattle.definitions.specs.Level.{level, lastLevel}
 
 -- one term of A: w × u over 10^12, down
 unfoldable pub term : ℕ → ℕ → ℕ
@@ -59,16 +60,38 @@ cell m N k = figureOf m N (k % m .highest + 1) (k / m .highest)
 unfoldable pub modelLevel : Model → ℕ
 modelLevel m = level (jumpMillionths m) (m .tolerance)
 
--- what a call answers of the file s lent with a number of cells: the first row that holds, or the level
-unfoldable pub outcome : List ℕ → ℕ → Answer ℕ
-outcome s cells = firstHeld (rows s cells) (modelLevel (modelOf s))
+-- the row means of a model up to level N
+abbrev pub meansTo : Model → ℕ → ℕ
+meansTo m N = rowMeans N (m .states) (m .highest)
 
--- document 01's answer for each case of an outcome: accepted with the level N, or refused with the number of a row
-abbrev pub answerOf : Outcome → Answer ℕ
-answerOf (ended.Level n) = accepted n
+-- the run of a model up to level N
+abbrev pub runTo : Model → ℕ → Run
+runTo m N = record { level = N; means = meansTo m N }
+
+-- the run of a model, up to its level
+abbrev pub runOf : Model → Run
+runOf m = runTo m (modelLevel m)
+
+-- what a call answers of the file s lent with a number of cells: the first row that holds, or the run
+unfoldable pub outcome : List ℕ → ℕ → Answer Run
+outcome s cells = firstHeld (rows s cells) (runOf (modelOf s))
+
+-- the papers' answer for each case of an outcome: accepted with the level N and the number of row means, or refused with the number of a row
+abbrev pub answerOf : Outcome → Answer Run
+answerOf (ended.Solved run) = accepted run
 answerOf (ended.Refused k) = refused k
 
--- document 01's values for each answer: all answer cells after the call, from those before it
-unfoldable pub cellsAfter : Answer ℕ → List ℕ → List ℕ → List ℕ
-cellsAfter (accepted n) s cells = over (blockSize s) (cell (modelOf s) n) cells
+-- the papers' values for each answer: all answer cells after the call, from those before it
+unfoldable pub cellsAfter : Answer Run → List ℕ → List ℕ → List ℕ
+cellsAfter (accepted run) s cells = over (blockSize s) (cell (modelOf s) (run .level)) cells
 cellsAfter (refused k) s cells = cells
+
+-- a number that is lent for the count of row means: what it holds after a call that answers the count, from what it held before. A refusal counts nothing.
+abbrev pub countAfter : Answer ℕ → ℕ → ℕ
+countAfter (accepted n) before = n
+countAfter (refused k) before = before
+
+-- of an answer: the level is at most 2 × m + 51 (document 02, S-8)
+abbrev pub LevelBounded : Answer Run → List ℕ → Type 0
+LevelBounded (accepted run) s = run .level ≤ lastLevel (jumpMillionths (modelOf s))
+LevelBounded (refused k) s = Unit {0}

@@ -5,7 +5,7 @@ use mathlib.Core.List.{List, [], _∷_}
 use Rattle.definitions.specs.Sums.{firsts}
 use Rattle.definitions.specs.Chain.{modelOf}
 use Rattle.definitions.specs.Rules.{Answer, accepted, refused, dimensions, fileJudgement}
-use Rattle.definitions.specs.Moment.{modelLevel, outcome}
+use Rattle.definitions.specs.Moment.{runOf, outcome}
 use Rattle.definitions.specs.Fields.{Fields, fieldsOf, fileOf}
 use Rattle.definitions.specs.Written.{fileFor}
 
@@ -54,7 +54,7 @@ practice M R seed lent = fileFor (dimensions M R) (practiceFile M R seed) lent
 pub record Dealt (M R seed : ℕ) (t : List ℕ) : Type 0 where
   pub states-fields : fieldsOf t ≡ practiceFields M R seed
   pub accepts : (newest : ℕ) → 1 ≤ newest → fileJudgement 1 newest t ≡ accepted tt
-  pub has-figures : (cells : ℕ) → M * R ≤ cells → outcome t cells ≡ accepted (modelLevel (modelOf t))
+  pub has-figures : (cells : ℕ) → M * R ≤ cells → outcome t cells ≡ accepted (runOf (modelOf t))
 
 -- "every file made is accepted by the reader": of an answer, for the file that was dealt
 abbrev pub DealtWell : Answer (List ℕ) → ℕ → ℕ → ℕ → Type 0

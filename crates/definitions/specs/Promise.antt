@@ -3,6 +3,7 @@ use Prim.Native.Nat.{ℕ, _+_, _*_, _≤_, _<_}
 use mathlib.Core.List.{List}
 use lib.ListN.{getD}
 use lib.Dec.{lit<}
+use Rattle.definitions.specs.declared.Run.{Run}
 use Rattle.definitions.specs.Chain.{Model, modelOf, maxReward}
 use Rattle.definitions.specs.Rules.{Answer, accepted, refused}
 use Rattle.definitions.specs.Vectors.{ONE}
@@ -63,7 +64,7 @@ pub record Promise (s : List ℕ) (N : ℕ) (cells : List ℕ) : Type 0 where
   pub close : (i r : ℕ) → i < modelOf s .states → 1 ≤ r → r ≤ modelOf s .highest → Close (modelOf s) rewarded N r i (printed s cells i r)
   pub start-close : (r : ℕ) → 0 < modelOf s .distributions → 1 ≤ r → r ≤ modelOf s .highest → StartClose (modelOf s) rewarded N r (printed s cells (modelOf s .states) r)
 
--- demand 3 of an answer: an acceptance with level N promises it, a refusal prints no moment
-abbrev pub Promised : Answer ℕ → List ℕ → List ℕ → Type 0
-Promised (accepted N) s cells = Promise s N cells
+-- demand 3 of an answer: an acceptance promises it of its level, a refusal prints no moment
+abbrev pub Promised : Answer Run → List ℕ → List ℕ → Type 0
+Promised (accepted run) s cells = Promise s (run .level) cells
 Promised (refused k) s cells = Unit {0}

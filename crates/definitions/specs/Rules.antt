@@ -15,6 +15,11 @@ pub data Answer (A : Type 0) : Type 0 where
   accepted : A → Answer A
   refused : ℕ → Answer A
 
+-- the answer that says f of what an answer says
+abbrev pub saying : {A B : Type 0} → (A → B) → Answer A → Answer B
+saying f (accepted a) = accepted (f a)
+saying f (refused k) = refused k
+
 -- rows of a table: each number with the condition that it is held by
 abbrev pub Rows : Type 0
 Rows = List (ℕ × Bool)

@@ -3,6 +3,7 @@ use Prim.Native.Nat.{ℕ, zero, suc, _+_, _/_, _%_, _^_}
 use mathlib.Core.List.{List, [], _∷_, _++_}
 use lib.ListN.{take, getD, replicate}
 use lib.Dec.{ltb}
+use Rattle.definitions.specs.declared.Run.{Run}
 use Rattle.definitions.specs.Sums.{pick}
 use Rattle.definitions.specs.File.{stateCount, highestMoment}
 use Rattle.definitions.specs.Rules.{Answer, accepted, refused, blockSize}
@@ -56,8 +57,8 @@ unfoldable pub refusedLine : ℕ → List ℕ
 refusedLine k = wordLine (114 ∷ 101 ∷ 102 ∷ 117 ∷ 115 ∷ 101 ∷ 100 ∷ 32 ∷ []) k
 
 -- the sheet of an answer, for M states, the highest moment R, a block of so many cells, and the cells after the call
-unfoldable pub sheetOf : Answer ℕ → ℕ → ℕ → ℕ → List ℕ → List ℕ
-sheetOf (accepted N) M R block cells = levelLine N ++ figureLines M R block cells
+unfoldable pub sheetOf : Answer Run → ℕ → ℕ → ℕ → List ℕ → List ℕ
+sheetOf (accepted run) M R block cells = levelLine (run .level) ++ figureLines M R block cells
 sheetOf (refused k) M R block cells = refusedLine k
 
 -- the program lends this many cells, and reads at most this many bytes

@@ -8,11 +8,11 @@ use Rattle.definitions.specs.Bytes.{big, bytesOf}
 use Rattle.definitions.specs.File.{distributions}
 use Rattle.definitions.specs.Chain.{jumpRate, rowSum, uniformRate, c, maxReward, jumpMillionths}
 use Rattle.definitions.specs.Rules.{accepted, refused, framing, quantities, fallsUpTo, listing, jumps, room, rows, seriesRows, firstHeld, judgement, seriesJudgement}
-use Rattle.definitions.specs.Vectors.{rowMean, rewardShare, mix, nextEntry, firstVectors, nextVectors, U}
+use Rattle.definitions.specs.Vectors.{rowMean, rewardShare, mix, nextEntry, firstVectors, nextVectors, U, rowMeans}
 use Rattle.definitions.specs.Weights.{mode, rightward, leftward, weight, weightSum}
 use Rattle.definitions.specs.Level.{tailBound, allowance, passes?, firstFrom, level}
 use Rattle.definitions.specs.Moment.{term, weighted, nearest, lastQuotient, weightedMean, moment, startMean, startFigure, figureOf, cell, modelLevel, outcome, cellsAfter}
-use Rattle.definitions.specs.Series.{levelAt, levelsAfter, blocksAfter}
+use Rattle.definitions.specs.Series.{levelAt, seriesOutcome, levelsAfter, blocksAfter}
 use Rattle.definitions.specs.Remainders.{remaindersOf}
 use Rattle.definitions.specs.Sheet.{digit, digits, places, decimal, figure, label, figureLine, figureLines, levelLine, sheetOf, lentCells, sheet, printedSheet}
 use Rattle.definitions.specs.Written.{written, fileFor, countOf, bytesAfter}
@@ -30,17 +30,17 @@ startB =
 -- with the times 1 and 2: each block has B's moments for that time, and after them two start figures. At time 2 they are
 -- 435714285713.75 and 283333333332.75 ticks, down. What is lent past them stays.
 pub series-of-start :
-    (seriesJudgement startB (1 ∷ 2 ∷ []) 3 13 ≡ accepted tt)
-    × (levelsAfter (accepted tt) startB (1 ∷ 2 ∷ []) (replicate 3 7) ≡ 3 ∷ 4 ∷ 7 ∷ [])
-    × (blocksAfter (accepted tt) startB (1 ∷ 2 ∷ []) (replicate 13 7) ≡ 718750000000 ∷ 612500000000 ∷ 281250000000 ∷ 175000000000 ∷ 390625000000 ∷ 284375000000 ∷ 628571428571 ∷ 476190476190 ∷ 371428571428 ∷ 219047619047 ∷ 435714285713 ∷ 283333333332 ∷ 7 ∷ [])
-unfolding sum largest anyAbove firsts over blocks big distributions jumpRate rowSum uniformRate c maxReward jumpMillionths framing quantities fallsUpTo listing jumps room seriesRows firstHeld seriesJudgement rowMean rewardShare mix nextEntry firstVectors nextVectors U mode rightward leftward weight weightSum tailBound allowance passes? firstFrom level term weighted nearest lastQuotient weightedMean moment startMean startFigure figureOf cell modelLevel levelAt levelsAfter blocksAfter
+    (seriesOutcome startB (1 ∷ 2 ∷ []) 3 13 ≡ accepted 16)
+    × (levelsAfter (accepted 16) startB (1 ∷ 2 ∷ []) (replicate 3 7) ≡ 3 ∷ 4 ∷ 7 ∷ [])
+    × (blocksAfter (accepted 16) startB (1 ∷ 2 ∷ []) (replicate 13 7) ≡ 718750000000 ∷ 612500000000 ∷ 281250000000 ∷ 175000000000 ∷ 390625000000 ∷ 284375000000 ∷ 628571428571 ∷ 476190476190 ∷ 371428571428 ∷ 219047619047 ∷ 435714285713 ∷ 283333333332 ∷ 7 ∷ [])
+unfolding sum largest anyAbove firsts over blocks big distributions jumpRate rowSum uniformRate c maxReward jumpMillionths framing quantities fallsUpTo listing jumps room seriesRows firstHeld rowMean rewardShare mix nextEntry firstVectors nextVectors U rowMeans mode rightward leftward weight weightSum tailBound allowance passes? firstFrom level term weighted nearest lastQuotient weightedMean moment startMean startFigure figureOf cell modelLevel levelAt seriesOutcome levelsAfter blocksAfter
 series-of-start = (refl, refl, refl)
 
 -- alone, lent one cell more than it fills
 pub cells-of-start :
-    (outcome startB 7 ≡ accepted 3)
-    × (cellsAfter (accepted 3) startB (replicate 7 7) ≡ 718750000000 ∷ 612500000000 ∷ 281250000000 ∷ 175000000000 ∷ 390625000000 ∷ 284375000000 ∷ 7 ∷ [])
-unfolding sum largest anyAbove firsts over big distributions jumpRate rowSum uniformRate c maxReward jumpMillionths framing quantities jumps room rows firstHeld rowMean rewardShare mix nextEntry firstVectors nextVectors U mode rightward leftward weight weightSum tailBound allowance passes? firstFrom level term weighted nearest lastQuotient weightedMean moment startMean startFigure figureOf cell modelLevel outcome cellsAfter
+    (outcome startB 7 ≡ accepted (record { level = 3; means = 12 }))
+    × (cellsAfter (accepted (record { level = 3; means = 12 })) startB (replicate 7 7) ≡ 718750000000 ∷ 612500000000 ∷ 281250000000 ∷ 175000000000 ∷ 390625000000 ∷ 284375000000 ∷ 7 ∷ [])
+unfolding sum largest anyAbove firsts over big distributions jumpRate rowSum uniformRate c maxReward jumpMillionths framing quantities jumps room rows firstHeld rowMean rewardShare mix nextEntry firstVectors nextVectors U rowMeans mode rightward leftward weight weightSum tailBound allowance passes? firstFrom level term weighted nearest lastQuotient weightedMean moment startMean startFigure figureOf cell modelLevel outcome cellsAfter
 cells-of-start = (refl, refl)
 
 -- its printed sheet: B's, and the lines "start 1 0.390625000000" and "start 2 0.284375000000"

@@ -51,6 +51,10 @@ unfoldable pub U : Chain → ℕ → ℕ → ℕ → ℕ
 U ch zero = firstVectors ch
 U ch (suc n) = nextVectors ch (suc n) (U ch n)
 
+-- the row means that this takes at M states for r = 1 to R, up to n = N: one for each state, each r and each n from 1 on, N × M × R (document 02, S-8)
+unfoldable pub rowMeans : ℕ → ℕ → ℕ → ℕ
+rowMeans N M R = N * M * R
+
 -- U(n,r) as a vector for 64 states
 unfoldable pub vector : Chain → ℕ → ℕ → List ℕ
 vector ch n r = padded (ch .states) (U ch n r)

@@ -4,7 +4,7 @@ use mathlib.Core.List.{List, _++_}
 use lib.ListN.{length, drop}
 use Rattle.definitions.specs.declared.Written.{Written}
 use Rattle.definitions.specs.declared.Written.the-variants as ended
-use Rattle.definitions.specs.Rules.{Answer, accepted, refused, Rows, room, firstHeld}
+use Rattle.definitions.specs.Rules.{Answer, accepted, refused, saying, Rows, room, firstHeld}
 
 -- a buffer after a text was written at its start: the text, and the buffer's later bytes as they were
 unfoldable pub written : List ℕ → List ℕ → List ℕ
@@ -16,8 +16,7 @@ fileFor table file lent = firstHeld (table ++ room (length file) lent) file
 
 -- the count of bytes that it returns
 abbrev pub countOf : Answer (List ℕ) → Answer ℕ
-countOf (accepted file) = accepted (length file)
-countOf (refused k) = refused k
+countOf a = saying length a
 
 -- all bytes of what is lent after the call, from those before it: a refusal writes nothing
 abbrev pub bytesAfter : Answer (List ℕ) → List ℕ → List ℕ

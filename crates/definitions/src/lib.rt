@@ -17,16 +17,22 @@ pub enum Judgement {
     Refused(u8),
 }
 
-// What a call that takes a file and fills its block answers: the truncation level N, or the number of the refusal.
+// What the run of a file has besides its block: the truncation level N, and the number of row means that it took.
+pub struct Run {
+    pub level: u64,
+    pub means: u64,
+}
+
+// What a call that takes a file and fills its block answers: its run, or the number of the refusal.
 pub enum Outcome {
-    Level(u64),
+    Solved(Run),
     Refused(u8),
 }
 
-// What a call that takes a file and a list of times answers: accepted, with a level and a block filled for each
-// time, or the number of the refusal.
+// What a call that takes a file and a list of times, and fills a level and a block for each time, answers: the number of row
+// means that it took for all of them, or the number of the refusal.
 pub enum Series {
-    Accepted,
+    Solved(u64),
     Refused(u8),
 }
 

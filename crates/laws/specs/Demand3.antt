@@ -9,7 +9,7 @@ use Rattle.definitions.specs.Chain.{Model, modelOf, jumpMillionths, chainOf}
 use Rattle.definitions.specs.Rules.{accepted, judgement}
 use Rattle.definitions.specs.Vectors.{ONE, U}
 use Rattle.definitions.specs.Weights.{weightSum}
-use Rattle.definitions.specs.Moment.{weighted, moment, startFigure, modelLevel, cellsAfter}
+use Rattle.definitions.specs.Moment.{weighted, moment, startFigure, modelLevel, runOf, cellsAfter}
 use Rattle.definitions.specs.Fraction.{AtMost, plus}
 use Rattle.definitions.specs.Average.{proper, exactU, average, startAverage}
 use Rattle.definitions.specs.Promise.{one-pos, ticks, toleranceOf, roundingTicks, startTicks, Close, StartClose, Promise}
@@ -81,7 +81,7 @@ module _ (m : Model) (g : WithinLimits m) where
       }
 
 -- demand 3 for every accepted file, at its level, of the cells after the call
-pub demand3 : (s cells : List ℕ) → judgement s (length cells) ≡ accepted tt → Promise s (modelLevel (modelOf s)) (cellsAfter (accepted (modelLevel (modelOf s))) s cells)
+pub demand3 : (s cells : List ℕ) → judgement s (length cells) ≡ accepted tt → Promise s (modelLevel (modelOf s)) (cellsAfter (accepted (runOf (modelOf s))) s cells)
 unfolding cellsAfter
 demand3 s cells passed =
     let f : AcceptedFile s (length cells) = accepted-file s (length cells) passed in

@@ -7,7 +7,7 @@ use mathlib.Core.Bool.{Bool, true, false, _&&_}
 use lib.Dec.{leb}
 use borrow.Author.Tests.{leb-true, le-leb}
 use Rattle.definitions.specs.Weights.{MILLION, mode, weight, weightSum}
-use Rattle.definitions.specs.Level.{BILLION, tailBound, allowance, Passes, IsLevel, passes?, firstFrom, level}
+use Rattle.definitions.specs.Level.{BILLION, tailBound, allowance, Passes, IsLevel, passes?, firstFrom, level, lastLevel}
 use Rattle.laws.specs.Rounding.{quotient-at-most, quotient-at-least}
 use Rattle.laws.specs.RowLaws.{both}
 use Rattle.laws.specs.WeightLaws.{mode-low, mode-high, weight-gone, weightSum-min}
@@ -49,10 +49,6 @@ found X ε (suc tries) n p low high h = from (passes? X ε n) refl (found X ε t
 -- how many levels there may be, 0 to 563: q is at most 256
 abbrev pub LEVELS : ℕ
 LEVELS = 564
-
--- the last n that can be the level
-abbrev pub lastLevel : ℕ → ℕ
-lastLevel X = 2 * mode X + 51
 
 module _ (X ε : ℕ) (jumps-max : X ≤ 256000000) (tolerance-pos : 1 ≤ ε) where
   -- at 2m + 51 the weight is 0, t is at most 257 and a millionth of 10^15 is allowed

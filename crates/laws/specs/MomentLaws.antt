@@ -4,6 +4,7 @@ use native.Mathlib.Omega.{arith}
 use native.Mathlib.Nat.{mul-le-mul, mul-le-mul-left}
 use mathlib.Core.Path.{_≡_, refl, sym, _∙_, ap, ap₂}
 use mathlib.Core.List.{List}
+use Rattle.definitions.specs.declared.Run.{Run}
 use lib.ListN.{getD}
 use borrow.Author.Tests.{lt-ltb, le-ltb}
 use Rattle.definitions.specs.Sums.{over}
@@ -11,7 +12,8 @@ use Rattle.definitions.specs.Division.{Rounds}
 use Rattle.definitions.specs.Chain.{Model, modelOf, jumpMillionths, blockOf}
 use Rattle.definitions.specs.Vectors.{ONE}
 use Rattle.definitions.specs.Weights.{mode, weight, weightSum}
-use Rattle.definitions.specs.Moment.{term, weighted, lastQuotient, weightedMean, moment, startFigure, cellOf, figureOf, cell, modelLevel, outcome}
+use Rattle.definitions.specs.Level.{lastLevel}
+use Rattle.definitions.specs.Moment.{term, weighted, lastQuotient, weightedMean, moment, startFigure, cellOf, figureOf, cell, modelLevel, runOf, outcome}
 use Rattle.definitions.specs.Rules.{Answer, accepted, refused, rows, judgement}
 use Rattle.laws.specs.Rounding.{quotient-at-most, quotient-below, quotient-unique, remainder-below, remainder-unique, row-of-place, place-in-row, place-below}
 use Rattle.laws.specs.Nearest.{nearest-within, nearest-at-most, nearest-up, nearest-down, nearest-rounds}
@@ -20,7 +22,7 @@ use Rattle.laws.specs.RuleLaws.{accepted-is-no-refusal, other-value}
 use Rattle.laws.specs.ListLaws.{getD-over}
 use Rattle.laws.specs.WeightLaws.{weightSum-min}
 use Rattle.laws.specs.Acceptance.{WithinLimits}
-use Rattle.laws.specs.LevelLaws.{level-is, level-max}
+use Rattle.laws.specs.LevelLaws.{level-is, level-last, level-max}
 use Rattle.laws.specs.AverageBound.{LastQuotient}
 
 -- the r and the state of a cell below M × R are within R and M
@@ -121,19 +123,24 @@ level-range m g =
     let X : ℕ = jumpMillionths m in
     (omega (arith, level-is X (m .tolerance) (g .jumps-max) (g .tolerance-pos) .passes .past, g .jumps-pos), omega (arith, level-max X (m .tolerance) (g .jumps-max) (g .tolerance-pos)))
 
+-- and at most 2m + 51
+pub level-bounded : (m : Model) → WithinLimits m → modelLevel m ≤ lastLevel (jumpMillionths m)
+unfolding modelLevel
+level-bounded m g = level-last (jumpMillionths m) (m .tolerance) (g .jumps-max) (g .tolerance-pos)
+
 -- the outcome of a refused file, and of an accepted one
 pub outcome-refused : (s : List ℕ) (cells k : ℕ) → judgement s cells ≡ refused k → outcome s cells ≡ refused k
 unfolding outcome judgement
-outcome-refused s cells k e = other-value (rows s cells) (tt {0}) (modelLevel (modelOf s)) ∙ rw e refl
+outcome-refused s cells k e = other-value (rows s cells) (tt {0}) (runOf (modelOf s)) ∙ rw e refl
 
-pub outcome-accepted : (s : List ℕ) (cells : ℕ) → judgement s cells ≡ accepted tt → outcome s cells ≡ accepted (modelLevel (modelOf s))
+pub outcome-accepted : (s : List ℕ) (cells : ℕ) → judgement s cells ≡ accepted tt → outcome s cells ≡ accepted (runOf (modelOf s))
 unfolding outcome judgement
-outcome-accepted s cells e = other-value (rows s cells) (tt {0}) (modelLevel (modelOf s)) ∙ rw e refl
+outcome-accepted s cells e = other-value (rows s cells) (tt {0}) (runOf (modelOf s)) ∙ rw e refl
 
--- a level is answered of an accepted file alone
-pub level-accepted : (s : List ℕ) (cells n : ℕ) → outcome s cells ≡ accepted n → judgement s cells ≡ accepted tt
-level-accepted s cells n e = from (judgement s cells) refl
+-- a run is answered of an accepted file alone
+pub run-judged : (s : List ℕ) (cells : ℕ) (run : Run) → outcome s cells ≡ accepted run → judgement s cells ≡ accepted tt
+run-judged s cells run e = from (judgement s cells) refl
   where
     from : (j : Answer (Unit {0})) → judgement s cells ≡ j → judgement s cells ≡ accepted tt
     from (accepted tt) h = h
-    from (refused k) h = absurd (accepted-is-no-refusal n k (sym e ∙ outcome-refused s cells k h))
+    from (refused k) h = absurd (accepted-is-no-refusal run k (sym e ∙ outcome-refused s cells k h))

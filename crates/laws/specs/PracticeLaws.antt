@@ -16,7 +16,7 @@ use Rattle.definitions.specs.Bytes.{bytesOf}
 use Rattle.definitions.specs.File.{stateCount, highestMoment, timeField, toleranceField, distributions, rewardField, place}
 use Rattle.definitions.specs.Chain.{modelOf, jumpRate, rowSum, uniformRate, maxReward}
 use Rattle.definitions.specs.Rules.{Answer, accepted, refused, outside, dimensions, framing, quantities, jumps, blockSize, fileRows, judgedBy, fileJudgement}
-use Rattle.definitions.specs.Moment.{modelLevel, outcome}
+use Rattle.definitions.specs.Moment.{runOf, outcome}
 use Rattle.definitions.specs.Fields.{Fields, wordsOf, fieldsOf, numbersOf, headed, headerOf, fileOf}
 use Rattle.definitions.specs.Practice.{next, stream, upper, draw, practiceFields, practiceFile, practice, DealtWell}
 use Rattle.laws.specs.Rounding.{quotient-below, remainder-below}
@@ -255,7 +255,7 @@ module _ (M R seed : ℕ) where
     highest-is = highest-of-file f
 
     -- with M × R cells it has a level
-    dealt-figures : (cells : ℕ) → M * R ≤ cells → outcome t cells ≡ accepted (modelLevel (modelOf t))
+    dealt-figures : (cells : ℕ) → M * R ≤ cells → outcome t cells ≡ accepted (runOf (modelOf t))
     dealt-figures cells enough-cells =
         outcome-accepted t cells (judgement-in-parts t cells ∙ rw (dealt-accepted 2 (omega arith)) (enough (blockSize t) cells block))
       where

@@ -11,17 +11,17 @@ use Rattle.definitions.specs.Sums.{over}
 use Rattle.definitions.specs.Bytes.{big, bytesOf}
 use Rattle.definitions.specs.File.{stateCount, highestMoment, timeField, distributions, rewardField, rateField, withTime}
 use Rattle.definitions.specs.Chain.{Model, modelOf, atTime, jumpRate, rowSum, uniformRate, blockOf}
-use Rattle.definitions.specs.Rules.{accepted, framing, quantities, jumps, room, blockSize, rows, judgement, seriesJudgement}
-use Rattle.definitions.specs.Moment.{cell, modelLevel, cellsAfter}
+use Rattle.definitions.specs.Rules.{accepted, refused, framing, quantities, jumps, room, blockSize, rows, seriesRows, judgement, seriesJudgement}
+use Rattle.definitions.specs.Moment.{cell, modelLevel, runTo, runOf, cellsAfter}
 use Rattle.definitions.specs.Promise.{Promise}
-use Rattle.definitions.specs.Series.{modelAt, levelAt, levelsAfter, blocksAfter, block, IsRun, AreRuns, SeriesPromised}
-use Rattle.laws.specs.RuleLaws.{NoneHold, all-pass, none-together}
+use Rattle.definitions.specs.Series.{modelAt, levelAt, meansOfAll, seriesOutcome, levelsAfter, blocksAfter, block, IsRun, AreRuns, SeriesPromised, LevelsBounded}
+use Rattle.laws.specs.RuleLaws.{NoneHold, all-pass, none-together, other-value}
 use Rattle.laws.specs.ListLaws.{getD-over}
 use Rattle.laws.specs.ByteLaws.{big-same, sets-before, sets-after, big-stored}
 use Rattle.laws.specs.BlockLaws.{block-end, block-is}
 use Rattle.laws.specs.ChainLaws.{rate-at, rate-pos}
 use Rattle.laws.specs.Acceptance.{AcceptedSeries, SeriesRows, series-rows, time-within, accepted-series}
-use Rattle.laws.specs.MomentLaws.{outcome-accepted}
+use Rattle.laws.specs.MomentLaws.{outcome-accepted, level-bounded}
 use Rattle.laws.specs.Demand3.{demand3}
 
 -- the file s with the time T
@@ -138,15 +138,15 @@ module _ (s times levels cells : List ℕ) (passed : seriesJudgement s times (le
   is-model : modelOf (withTime s (getD times k 0)) ≡ modelAt s times k
   is-model = model-run s times (length levels) (length cells) (series-rows s times (length levels) (length cells) passed) f k h
 
-  -- level k of the series
-  level-in : getD (levelsAfter (accepted tt) s times levels) k 0 ≡ modelLevel (modelOf (withTime s (getD times k 0)))
+  -- level k of the series, whatever is counted
+  level-in : (n : ℕ) → getD (levelsAfter (accepted n) s times levels) k 0 ≡ modelLevel (modelOf (withTime s (getD times k 0)))
   unfolding levelsAfter levelAt
-  level-in = getD-over 0 (length times) (levelAt s times) levels k h ∙ ap modelLevel (sym is-model)
+  level-in n = getD-over 0 (length times) (levelAt s times) levels k h ∙ ap modelLevel (sym is-model)
 
   -- block k of the series
-  block-in : block s (blocksAfter (accepted tt) s times cells) k ≡ cellsAfter (accepted (modelLevel (modelOf (withTime s (getD times k 0))))) (withTime s (getD times k 0)) (block s cells k)
+  block-in : (n : ℕ) → block s (blocksAfter (accepted n) s times cells) k ≡ cellsAfter (accepted (runOf (modelOf (withTime s (getD times k 0))))) (withTime s (getD times k 0)) (block s cells k)
   unfolding blocksAfter cellsAfter levelAt
-  block-in =
+  block-in n =
       block-is (blockSize s) 0 (length times) (λ j. cell (modelAt s times j) (levelAt s times j)) cells k h (f .block-room)
       ∙ ap (λ (m : Model). over (blockOf m) (cell m (modelLevel m)) (block s cells k)) (sym is-model)
 
@@ -154,18 +154,33 @@ module _ (s times levels cells : List ℕ) (passed : seriesJudgement s times (le
   size : length (block s cells k) ≡ blockSize s
   size = length-take-le (blockSize s) (drop (k * blockSize s) cells) (omega (arith, f .block-room, block-end k (length times) (blockSize s) h, length-drop (k * blockSize s) cells))
 
-  is-run : IsRun (withTime s (getD times k 0)) (getD (levelsAfter (accepted tt) s times levels) k 0) (block s cells k) (block s (blocksAfter (accepted tt) s times cells) k)
-  is-run =
+  is-run : (n : ℕ) → IsRun (withTime s (getD times k 0)) (getD (levelsAfter (accepted n) s times levels) k 0) (block s cells k) (block s (blocksAfter (accepted n) s times cells) k)
+  is-run n =
       let answer = rw (← size) at (outcome-accepted (withTime s (getD times k 0)) (blockSize s) judged) in
-      record { same-level = answer ∙ ap accepted (sym level-in); same-block = rw answer (sym block-in) }
+      record { same-level = answer ∙ ap (λ (N : ℕ). accepted (runTo (modelOf (withTime s (getD times k 0))) N)) (sym (level-in n)); same-block = rw answer (sym (block-in n)) }
 
-  promise : Promise (withTime s (getD times k 0)) (getD (levelsAfter (accepted tt) s times levels) k 0) (block s (blocksAfter (accepted tt) s times cells) k)
-  promise = rw (level-in, block-in) (demand3 (withTime s (getD times k 0)) (block s cells k) (rw size judged))
+  promise : (n : ℕ) → Promise (withTime s (getD times k 0)) (getD (levelsAfter (accepted n) s times levels) k 0) (block s (blocksAfter (accepted n) s times cells) k)
+  promise n = rw (level-in n, block-in n) (demand3 (withTime s (getD times k 0)) (block s cells k) (rw size judged))
 
 -- document 02's sentence, for every accepted list: each level and block is that of a run
-pub series-runs : (s times levels cells : List ℕ) → seriesJudgement s times (length levels) (length cells) ≡ accepted tt → AreRuns (accepted tt) s times (levelsAfter (accepted tt) s times levels) cells (blocksAfter (accepted tt) s times cells)
-series-runs s times levels cells passed k h = is-run s times levels cells passed k h
+pub series-runs : (s times levels cells : List ℕ) (n : ℕ) → seriesJudgement s times (length levels) (length cells) ≡ accepted tt → AreRuns (accepted n) s times (levelsAfter (accepted n) s times levels) cells (blocksAfter (accepted n) s times cells)
+series-runs s times levels cells n passed k h = is-run s times levels cells passed k h n
 
--- and demand 3 holds of it
-pub series-promised : (s times levels cells : List ℕ) → seriesJudgement s times (length levels) (length cells) ≡ accepted tt → SeriesPromised (accepted tt) s times (levelsAfter (accepted tt) s times levels) (blocksAfter (accepted tt) s times cells)
-series-promised s times levels cells passed k h = promise s times levels cells passed k h
+-- demand 3 holds of it
+pub series-promised : (s times levels cells : List ℕ) (n : ℕ) → seriesJudgement s times (length levels) (length cells) ≡ accepted tt → SeriesPromised (accepted n) s times (levelsAfter (accepted n) s times levels) (blocksAfter (accepted n) s times cells)
+series-promised s times levels cells n passed k h = promise s times levels cells passed k h n
+
+-- and its level is at most 2m + 51 (S-8)
+pub series-bounded : (s times levels : List ℕ) (cells n : ℕ) → seriesJudgement s times (length levels) cells ≡ accepted tt → LevelsBounded (accepted n) s times (levelsAfter (accepted n) s times levels)
+unfolding levelsAfter levelAt
+series-bounded s times levels cells n passed k h =
+    rw (getD-over 0 (length times) (levelAt s times) levels k h) (level-bounded (modelAt s times k) (accepted-series s times (length levels) cells passed .limits k h))
+
+-- the outcome of a refused list, and of an accepted one
+pub series-refused : (s times : List ℕ) (levels cells k : ℕ) → seriesJudgement s times levels cells ≡ refused k → seriesOutcome s times levels cells ≡ refused k
+unfolding seriesOutcome seriesJudgement
+series-refused s times levels cells k e = other-value (seriesRows s times levels cells) (tt {0}) (meansOfAll s times) ∙ rw e refl
+
+pub series-accepted : (s times : List ℕ) (levels cells : ℕ) → seriesJudgement s times levels cells ≡ accepted tt → seriesOutcome s times levels cells ≡ accepted (meansOfAll s times)
+unfolding seriesOutcome seriesJudgement
+series-accepted s times levels cells e = other-value (seriesRows s times levels cells) (tt {0}) (meansOfAll s times) ∙ rw e refl

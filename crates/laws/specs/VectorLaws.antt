@@ -1,11 +1,11 @@
--- The recurrence's equations as the paper has them, its range, and that it reads a chain at its states alone.
+-- The recurrence's equations as the paper has them, its range, that it reads a chain at its states alone, and the row means that it takes.
 use Prim.Native.Nat.{ℕ, zero, suc, _+_, _*_, _/_, _≤_, _<_}
 use native.Mathlib.Omega.{arith}
 use native.Mathlib.Nat.{mul-le-mul, mul-le-mul-left, mul-le-mul-right, le-trans}
 use mathlib.Core.Path.{_≡_, refl, sym, _∙_, ap, ap₂}
 use Rattle.definitions.specs.Sums.{sum}
 use Rattle.definitions.specs.Chain.{Chain}
-use Rattle.definitions.specs.Vectors.{ONE, rowTotal, rowMean, rewardShare, mix, nextEntry, firstVectors, nextVectors, U}
+use Rattle.definitions.specs.Vectors.{ONE, rowTotal, rowMean, rewardShare, mix, nextEntry, firstVectors, nextVectors, U, rowMeans}
 use Rattle.laws.specs.Rounding.{quotient-at-most}
 use Rattle.laws.specs.SumLaws.{sum-same, sum-mono, sum-times}
 use Rattle.laws.specs.ChainLaws.{SameChain}
@@ -115,3 +115,16 @@ U-same-next a b e n h (suc r) i l =
 pub U-same : (a b : Chain) → SameChain a b → (n r i : ℕ) → i < a .states → U a n r i ≡ U b n r i
 U-same a b e zero = U-same-first a b e
 U-same a b e (suc n) = U-same-next a b e n (U-same a b e n)
+
+-- the row means up to n: none for n = 0, one for each state and each r with every n more, and no more than 1,024 × 64 × 8 for the greatest n, M and R
+pub means-none : (M R : ℕ) → rowMeans 0 M R ≡ 0
+unfolding rowMeans
+means-none M R = omega arith
+
+pub means-next : (n M R : ℕ) → rowMeans (n + 1) M R ≡ rowMeans n M R + M * R
+unfolding rowMeans
+means-next n M R = omega arith
+
+pub means-max : (n M R : ℕ) → n ≤ 1024 → M ≤ 64 → R ≤ 8 → rowMeans n M R ≤ 524288
+unfolding rowMeans
+means-max n M R hn hM hR = omega (arith, mul-le-mul (mul-le-mul hn hM) hR)

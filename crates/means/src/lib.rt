@@ -7,10 +7,10 @@
 ghost use mathlib.Core.Path.{_≡_};
 ghost use Prim.Native.Nat.{max, _+_, _*_, _%_, _^_, _<_, _≤_};
 ghost use lib.ListN.{length, getD};
-ghost use Rattle.definitions.specs.Sums.{over, blocks};
+ghost use Rattle.definitions.specs.Sums.{largest, over, blocks};
 ghost use Rattle.definitions.specs.Division.{Divides, Rounds};
 ghost use Rattle.definitions.specs.Chain.{listed, arrays};
-ghost use Rattle.definitions.specs.Vectors.{ONE};
+ghost use Rattle.definitions.specs.Vectors.{ONE, rowMeans};
 ghost use Rattle.definitions.specs.Moment.{term, lastQuotient};
 ghost use Rattle.laws.specs.LevelLaws.{LEVELS};
 ghost use Rattle.means.specs.Running.{inTable, rowFrom, termAt, ofStates, partSums, Topmost, Addable, AllAddable, Summable, Divisible, AllDivisible};
@@ -103,7 +103,7 @@ fn add_to_blocks(
 }
 
 // The sums A in all blocks: for every X, the sum over n = 0 to its level of w(n) * U(n,r) over 10^12. The vectors of each
-// n are computed once, as far as the largest level needs.
+// n are computed once, as far as the largest level needs. Returns how many row means they took.
 fn accumulate(
     sizes: Sizes,
     targets: &[u8],
@@ -114,21 +114,33 @@ fn accumulate(
     largest: u64,
     weights: &[u64],
     cells: &mut [u64],
-)
+) -> u64
     requires { ⌜ Summable sizes (listed (now targets) (now rates) (now counts)) (now rewards) (now levels) (now weights) × Topmost largest (now levels) × (length (now levels) * sizes .block ≤ length (now cells)) ⌝ }
-    ensures { λ r. ⌜ now (cells .exit) ≡ partSums (arrays sizes (listed (now (targets .entry)) (now (rates .entry)) (now (counts .entry))) (now (rewards .entry))) (sizes .block) (now (levels .entry)) (now (weights .entry)) (sizes .highest) (largest + 1) (now (cells .entry)) ⌝ }
+    ensures cells { λ t. ⌜ now (cells .exit) ≡ partSums (arrays sizes (listed (now (targets .entry)) (now (rates .entry)) (now (counts .entry))) (now (rewards .entry))) (sizes .block) (now (levels .entry)) (now (weights .entry)) (sizes .highest) (largest + 1) (now (cells .entry)) ⌝ }
+    ensures taken { λ t. ⌜ t ≡ rowMeans largest (sizes .states) (sizes .highest) ⌝ }
 {
     let zeros = [0u64; 64];
     let mut table = [zeros; 9];
     vectors::first_table(sizes, rewards, &mut table);
     clear(levels.len() * sizes.block, cells);
     add_to_blocks(sizes, 0, levels, weights, &table, cells);
+    let mut taken: u64 = 0;
     let mut n: u64 = 0;
     while n < largest {
         n += 1;
-        vectors::next_table(sizes, targets, rates, counts, rewards, n, &mut table);
+        vectors::next_table(
+            sizes,
+            targets,
+            rates,
+            counts,
+            rewards,
+            n,
+            &mut table,
+            &mut taken,
+        );
         add_to_blocks(sizes, n, levels, weights, &table, cells);
     }
+    taken
 }
 
 // The last quotient: A * 10^12 by S(N), to the nearest tick. It rounds by the remainder: one more where twice that
@@ -196,7 +208,8 @@ fn truncate_each(
 }
 
 // The levels of a list of X, and the moments of a chain in arrays for each: level k and block k of the cells are those of X
-// number k, with 0 in the cells of a block past the moments. The rows of weights are lent.
+// number k, with 0 in the cells of a block past the moments. The rows of weights are lent. Returns the number of row means that
+// it took.
 pub fn solve(
     sizes: Sizes,
     targets: &[u8],
@@ -208,16 +221,17 @@ pub fn solve(
     weights: &mut [u64],
     levels: &mut [u64],
     cells: &mut [u64],
-)
+) -> u64
     requires { ⌜ Solvable sizes (listed (now targets) (now rates) (now counts)) (now rewards) (now xs) tolerance ⌝ }
     requires { ⌜ (length (now xs) * LEVELS ≤ length (now weights)) × (length (now xs) ≤ length (now levels)) × (length (now xs) * sizes .block ≤ length (now cells)) ⌝ }
-    ensures levels { λ r. ⌜ now (levels .exit) ≡ over (length (now (xs .entry))) (levelOf (now (xs .entry)) tolerance) (now (levels .entry)) ⌝ }
-    ensures cells { λ r. ⌜ now (cells .exit) ≡ blocks (sizes .block) (length (now (xs .entry))) (meansOf (arrays sizes (listed (now (targets .entry)) (now (rates .entry)) (now (counts .entry))) (now (rewards .entry))) (now (xs .entry)) tolerance (sizes .highest)) (now (cells .entry)) ⌝ }
+    ensures levels { λ t. ⌜ now (levels .exit) ≡ over (length (now (xs .entry))) (levelOf (now (xs .entry)) tolerance) (now (levels .entry)) ⌝ }
+    ensures cells { λ t. ⌜ now (cells .exit) ≡ blocks (sizes .block) (length (now (xs .entry))) (meansOf (arrays sizes (listed (now (targets .entry)) (now (rates .entry)) (now (counts .entry))) (now (rewards .entry))) (now (xs .entry)) tolerance (sizes .highest)) (now (cells .entry)) ⌝ }
+    ensures taken { λ t. ⌜ t ≡ rowMeans (largest (length (now (xs .entry))) (levelOf (now (xs .entry)) tolerance)) (sizes .states) (sizes .highest) ⌝ }
 {
     let count = xs.len();
     let mut totals = [0u64; MOST_TIMES];
     let largest = truncate_each(xs, tolerance, levels, &mut totals, weights);
-    accumulate(
+    let taken = accumulate(
         sizes,
         targets,
         rates,
@@ -229,4 +243,5 @@ pub fn solve(
         cells,
     );
     divide_blocks(&totals[..count], sizes.block, cells);
+    taken
 }

@@ -9,16 +9,16 @@ use lib.Dec.{ltb}
 use lib.ListN.{length, getD}
 use borrow.Author.Tests.{lt-ltb, le-ltb}
 use Rattle.definitions.specs.declared.Sizes.{Sizes}
-use Rattle.definitions.specs.Sums.{over, blocks, pick}
+use Rattle.definitions.specs.Sums.{largest, over, blocks, pick}
 use Rattle.definitions.specs.File.{stateCount, highestMoment, timeField, distributions, weightField}
 use Rattle.definitions.specs.Chain.{Model, Chain, Listing, modelOf, atTime, arrays, chainOf, uniformRate, jumpMillionths, padded, sizesOf}
-use Rattle.definitions.specs.Vectors.{U}
+use Rattle.definitions.specs.Vectors.{U, rowMeans}
 use Rattle.definitions.specs.Level.{level}
 use Rattle.definitions.specs.Rules.{accepted, blockSize}
-use Rattle.definitions.specs.Moment.{weightedMean, moment, startFigure, figureOf, cell, modelLevel, cellsAfter}
-use Rattle.definitions.specs.Series.{modelAt, levelAt, levelsAfter, blocksAfter}
+use Rattle.definitions.specs.Moment.{weightedMean, moment, startFigure, figureOf, cell, modelLevel, meansTo, runOf, cellsAfter}
+use Rattle.definitions.specs.Series.{modelAt, levelAt, meansOfAll, levelsAfter, blocksAfter}
 use Rattle.laws.specs.Rounding.{row-of-place, place-in-row, place-below}
-use Rattle.laws.specs.SumLaws.{sum-same}
+use Rattle.laws.specs.SumLaws.{sum-same, largest-same}
 use Rattle.laws.specs.ArrayLaws.{entryOf}
 use Rattle.laws.specs.ListLaws.{getD-over, over-same}
 use Rattle.laws.specs.BlockLaws.{length-blocks, getD-blocks, blocks-same, blocks-again, blocks-kept, blocks-one}
@@ -82,9 +82,13 @@ module _ (s times : List ℕ) (levels cells : ℕ) (g : AcceptedSeries s times l
   level-is k h = ap₂ level (is-jumps k h) (e .tolerance)
 
   -- with the file's levels
-  pub levels-are : (before : List ℕ) → over (length xs) (levelOf xs ε) before ≡ levelsAfter (accepted tt) s times before
+  pub levels-are : (n : ℕ) (before : List ℕ) → over (length xs) (levelOf xs ε) before ≡ levelsAfter (accepted n) s times before
   unfolding levelsAfter
-  levels-are before = rw (e .count) (over-same (length times) (levelOf xs ε) (levelAt s times) before level-is)
+  levels-are n before = rw (e .count) (over-same (length times) (levelOf xs ε) (levelAt s times) before level-is)
+
+  -- and row means
+  pub counted : rowMeans (largest (length xs) (levelOf xs ε)) (z .states) (z .highest) ≡ meansOfAll s times
+  counted = rw (e .count, e .held .sizes) (ap (λ (N : ℕ). rowMeans N (m .states) (m .highest)) (largest-same (length times) (levelOf xs ε) (levelAt s times) level-is))
 
   -- and moments, in the cells of the states
   module _ (before : List ℕ) (room : length times * blockSize s ≤ length before) (now : List ℕ) (solved : now ≡ blocks (z .block) (length xs) (meansOf (arrays z a f) xs ε (z .highest)) before) where
@@ -134,9 +138,9 @@ module _ (s times : List ℕ) (levels cells : ℕ) (g : AcceptedSeries s times l
             ∙ sym (figure-of-start (modelAt s times k) (levelAt s times k) (i % R + 1) (i / R) (omega (arith, row))))
 
     -- and so are the blocks
-    pub blocks-are : started m (blockSize s) (length times) now ≡ blocksAfter (accepted tt) s times before
+    pub blocks-are : (n : ℕ) → started m (blockSize s) (length times) now ≡ blocksAfter (accepted n) s times before
     unfolding started blocksAfter
-    blocks-are =
+    blocks-are n =
         blocks-again (blockSize s) 0 (length times) _ _ before now room (rw (e .count, e .held .sizes) at solved)
         ∙ blocks-same (blockSize s) (length times) _ _ before cell-is
 
@@ -184,12 +188,16 @@ module _ (s : List ℕ) (z : Sizes) (count : ℕ) (cells : List ℕ) (g : Starta
         (blocks-same ((M + 1) * R) count _ _ cells
         (λ k e hk he. ap (λ (x : ℕ). pick (ltb e (M * R)) (getD cells (k * ((M + 1) * R) + e) 0) x) (mean-same M (entryOf weights) (weightField s) _ _ weight-in (λ i l. refl))))
 
--- the file's own time as a list of one: level 0 is the file's, and the one block has its moments
+-- the file's own time as a list of one: level 0 is the file's, the row means are those of its run, and the one block has its moments
 module _ (s : List ℕ) where
-  pub own-level : (before : List ℕ) → getD (levelsAfter (accepted tt) s (timeField s ∷ []) before) 0 0 ≡ modelLevel (modelOf s)
+  pub own-level : (n : ℕ) (before : List ℕ) → getD (levelsAfter (accepted n) s (timeField s ∷ []) before) 0 0 ≡ modelLevel (modelOf s)
   unfolding levelsAfter levelAt
-  own-level before = getD-over 0 1 (levelAt s (timeField s ∷ [])) before 0 (omega arith)
+  own-level n before = getD-over 0 1 (levelAt s (timeField s ∷ [])) before 0 (omega arith)
 
-  pub own-block : (before : List ℕ) → blocksAfter (accepted tt) s (timeField s ∷ []) before ≡ cellsAfter (accepted (modelLevel (modelOf s))) s before
+  pub own-means : meansOfAll s (timeField s ∷ []) ≡ meansTo (modelOf s) (modelLevel (modelOf s))
+  unfolding largest levelAt
+  own-means = ap (meansTo (modelOf s)) (omega arith)
+
+  pub own-block : (n : ℕ) (before : List ℕ) → blocksAfter (accepted n) s (timeField s ∷ []) before ≡ cellsAfter (accepted (runOf (modelOf s))) s before
   unfolding blocksAfter cellsAfter levelAt
-  own-block before = blocks-one (blockSize s) (λ k. cell (modelAt s (timeField s ∷ []) k) (levelAt s (timeField s ∷ []) k)) before
+  own-block n before = blocks-one (blockSize s) (λ k. cell (modelAt s (timeField s ∷ []) k) (levelAt s (timeField s ∷ []) k)) before

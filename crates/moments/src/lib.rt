@@ -1,21 +1,22 @@
 // The moments of the accumulated reward: a file in, the level and the moments out, for its own time or for a list of times,
-// and where the file holds a starting distribution, the start figures.
+// and where the file holds a starting distribution, the start figures. The row means taken on the way are counted.
 ghost use mathlib.Core.Path.{_≡_};
 ghost use Prim.Native.Nat.{_*_, _^_, _<_, _≤_};
 ghost use lib.ListN.{length, getD};
 ghost use Rattle.definitions.specs.Sums.{over};
 ghost use Rattle.definitions.specs.File.{stateCount};
 ghost use Rattle.definitions.specs.Chain.{modelOf};
-ghost use Rattle.definitions.specs.Rules.{accepted, seriesJudgement};
-ghost use Rattle.definitions.specs.Moment.{modelLevel, outcome, answerOf, cellsAfter};
+ghost use Rattle.definitions.specs.Rules.{accepted};
+ghost use Rattle.definitions.specs.Moment.{runOf, outcome, answerOf, cellsAfter, LevelBounded};
 ghost use Rattle.definitions.specs.Promise.{Promised};
-ghost use Rattle.definitions.specs.Series.{seriesAnswer, levelsAfter, blocksAfter, AreRuns, SeriesPromised};
+ghost use Rattle.definitions.specs.Series.{meansOfAll, seriesOutcome, seriesAnswer, levelsAfter, blocksAfter, AreRuns, SeriesPromised, LevelsBounded};
 ghost use Rattle.laws.specs.Acceptance.{AcceptedFile, AcceptedSeries};
 ghost use Rattle.laws.specs.LevelLaws.{LEVELS};
 ghost use Rattle.moments.specs.Filling.{started, Startable};
 use definitions::Judgement;
 use definitions::MOST_TIMES;
 use definitions::Outcome;
+use definitions::Run;
 use definitions::Series;
 use definitions::Sizes;
 
@@ -47,7 +48,7 @@ fn put_starts(file: &[u8], sizes: Sizes, count: usize, cells: &mut [u64])
 }
 
 // A level and a block for each time of a list, of an accepted file: what it states is read, its rows into the
-// places that are lent.
+// places that are lent. Returns the number of row means that it took.
 fn fill_with(
     file: &[u8],
     times: &[u32],
@@ -56,11 +57,12 @@ fn fill_with(
     weights: &mut [u64],
     levels: &mut [u64],
     cells: &mut [u64],
-)
+) -> u64
     requires { ⌜ AcceptedSeries (now file) (now times) (length (now levels)) (length (now cells)) ⌝ }
     requires { ⌜ (stateCount (now file) * stateCount (now file) ≤ length (now targets)) × (stateCount (now file) * stateCount (now file) ≤ length (now rates)) × (length (now times) * LEVELS ≤ length (now weights)) ⌝ }
-    ensures levels { λ r. ⌜ now (levels .exit) ≡ levelsAfter (accepted tt) (now (file .entry)) (now (times .entry)) (now (levels .entry)) ⌝ }
-    ensures cells { λ r. ⌜ now (cells .exit) ≡ blocksAfter (accepted tt) (now (file .entry)) (now (times .entry)) (now (cells .entry)) ⌝ }
+    ensures levels { λ n. ⌜ now (levels .exit) ≡ levelsAfter (accepted n) (now (file .entry)) (now (times .entry)) (now (levels .entry)) ⌝ }
+    ensures cells { λ n. ⌜ now (cells .exit) ≡ blocksAfter (accepted n) (now (file .entry)) (now (times .entry)) (now (cells .entry)) ⌝ }
+    ensures means { λ n. ⌜ n ≡ meansOfAll (now (file .entry)) (now (times .entry)) ⌝ }
 {
     let sums = reader::row_sums(file);
     let sizes = reader::sizes_of(file, &sums);
@@ -71,7 +73,7 @@ fn fill_with(
     write_jumps(sizes.rate, times, &mut xs);
     let count = times.len();
     let tolerance = reader::tolerance(file);
-    means::solve(
+    let taken = means::solve(
         sizes,
         targets,
         rates,
@@ -84,19 +86,27 @@ fn fill_with(
         cells,
     );
     put_starts(file, sizes, count, cells);
+    taken
 }
 
 // The same, with places enough for the rows.
-fn fill(file: &[u8], times: &[u32], weights: &mut [u64], levels: &mut [u64], cells: &mut [u64])
+fn fill(
+    file: &[u8],
+    times: &[u32],
+    weights: &mut [u64],
+    levels: &mut [u64],
+    cells: &mut [u64],
+) -> u64
     requires { ⌜ AcceptedSeries (now file) (now times) (length (now levels)) (length (now cells)) × (length (now times) * LEVELS ≤ length (now weights)) ⌝ }
-    ensures levels { λ r. ⌜ now (levels .exit) ≡ levelsAfter (accepted tt) (now (file .entry)) (now (times .entry)) (now (levels .entry)) ⌝ }
-    ensures cells { λ r. ⌜ now (cells .exit) ≡ blocksAfter (accepted tt) (now (file .entry)) (now (times .entry)) (now (cells .entry)) ⌝ }
+    ensures levels { λ n. ⌜ now (levels .exit) ≡ levelsAfter (accepted n) (now (file .entry)) (now (times .entry)) (now (levels .entry)) ⌝ }
+    ensures cells { λ n. ⌜ now (cells .exit) ≡ blocksAfter (accepted n) (now (file .entry)) (now (times .entry)) (now (cells .entry)) ⌝ }
+    ensures means { λ n. ⌜ n ≡ meansOfAll (now (file .entry)) (now (times .entry)) ⌝ }
 {
     let states = reader::state_count(file);
     if states <= FEW_STATES {
         let mut targets = [0u8; FEW_STATES * FEW_STATES];
         let mut rates = [0u32; FEW_STATES * FEW_STATES];
-        fill_with(
+        return fill_with(
             file,
             times,
             &mut targets,
@@ -105,7 +115,6 @@ fn fill(file: &[u8], times: &[u32], weights: &mut [u64], levels: &mut [u64], cel
             levels,
             cells,
         );
-        return;
     }
     let mut targets = [0u8; 64 * 64];
     let mut rates = [0u32; 64 * 64];
@@ -117,65 +126,69 @@ fn fill(file: &[u8], times: &[u32], weights: &mut [u64], levels: &mut [u64], cel
         weights,
         levels,
         cells,
-    );
+    )
 }
 
-// The level and the block for the file's own time: a list of one.
-fn fill_own(file: &[u8], cells: &mut [u64]) -> u64
+// The run and the block for the file's own time: a list of one.
+fn fill_own(file: &[u8], cells: &mut [u64]) -> Run
     requires { ⌜ AcceptedFile (now file) (length (now cells)) ⌝ }
-    ensures { λ n. ⌜ (n ≡ modelLevel (modelOf (now (file .entry)))) × (now (cells .exit) ≡ cellsAfter (accepted n) (now (file .entry)) (now (cells .entry))) ⌝ }
+    ensures { λ run. ⌜ (run ≡ runOf (modelOf (now (file .entry)))) × (now (cells .exit) ≡ cellsAfter (accepted run) (now (file .entry)) (now (cells .entry))) ⌝ }
 {
     let times = [reader::time(file)];
     let mut weights = [0u64; poisson::LEVELS];
     let mut levels = [0u64];
-    fill(file, &times, &mut weights, &mut levels, cells);
-    levels[0]
+    let means = fill(file, &times, &mut weights, &mut levels, cells);
+    Run {
+        level: levels[0],
+        means,
+    }
 }
 
-// The call: the first row of the table of refusals that holds, with no cell touched; or the level N,
-// with moment r of state i, counted from 1, in cell (i - 1) * R + (r - 1), and for a file of version 2
-// the start figure for r in cell M * R + (r - 1). The cells past them are as they were. A moment is
-// within the tolerance and the rounding of its exact average, a start figure within one tick more of the
-// averages weighted so.
+// The call: the first row of the table of refusals that holds, with no cell touched; or the level N and the
+// number of row means taken, N * M * R, with moment r of state i, counted from 1, in cell (i - 1) * R + (r - 1),
+// and for a file of version 2 the start figure for r in cell M * R + (r - 1). The cells past them are as they
+// were. A moment is within the tolerance and the rounding of its exact average, a start figure within one tick
+// more of the averages weighted so. The level is at most 2 * m + 51, m being the expected jump count, down.
 pub fn calculate(file: &[u8], cells: &mut [u64]) -> Outcome
     ensures outcome { λ o. ⌜ answerOf o ≡ outcome (now (file .entry)) (length (now (cells .entry))) ⌝ }
     ensures cells { λ o. ⌜ now (cells .exit) ≡ cellsAfter (answerOf o) (now (file .entry)) (now (cells .entry)) ⌝ }
     ensures promise { λ o. ⌜ Promised (answerOf o) (now (file .entry)) (now (cells .exit)) ⌝ }
+    ensures bounded { λ o. ⌜ LevelBounded (answerOf o) (now (file .entry)) ⌝ }
 {
     let judgement = refusals::judge(file, cells.len());
     match judgement {
         Judgement::Refused(k) => Outcome::Refused(k),
-        Judgement::Accepted => Outcome::Level(fill_own(file, cells)),
+        Judgement::Accepted => Outcome::Solved(fill_own(file, cells)),
     }
 }
 
 // A level and a block for each time of an accepted list.
-fn fill_listed(file: &[u8], times: &[u32], levels: &mut [u64], cells: &mut [u64])
+fn fill_listed(file: &[u8], times: &[u32], levels: &mut [u64], cells: &mut [u64]) -> u64
     requires { ⌜ AcceptedSeries (now file) (now times) (length (now levels)) (length (now cells)) ⌝ }
-    ensures levels { λ r. ⌜ now (levels .exit) ≡ levelsAfter (accepted tt) (now (file .entry)) (now (times .entry)) (now (levels .entry)) ⌝ }
-    ensures cells { λ r. ⌜ now (cells .exit) ≡ blocksAfter (accepted tt) (now (file .entry)) (now (times .entry)) (now (cells .entry)) ⌝ }
+    ensures levels { λ n. ⌜ now (levels .exit) ≡ levelsAfter (accepted n) (now (file .entry)) (now (times .entry)) (now (levels .entry)) ⌝ }
+    ensures cells { λ n. ⌜ now (cells .exit) ≡ blocksAfter (accepted n) (now (file .entry)) (now (times .entry)) (now (cells .entry)) ⌝ }
+    ensures means { λ n. ⌜ n ≡ meansOfAll (now (file .entry)) (now (times .entry)) ⌝ }
 {
     let mut weights = [0u64; MOST_TIMES * poisson::LEVELS];
-    fill(file, times, &mut weights, levels, cells);
+    fill(file, times, &mut weights, levels, cells)
 }
 
 // The call for several times: the first row of its table of refusals that holds, with no level and no cell
-// touched; or acceptance, with the level of time k in level cell k and its figures in block k, in the order of
-// `calculate`. Each is what `calculate` gives for the file with that time in the place of its own. The levels
-// past the last time and the cells past the last block are as they were.
+// touched; or the number of row means taken, N * M * R with the largest level N, with the level of time k in
+// level cell k and its figures in block k, in the order of `calculate`. Each is what `calculate` gives for the
+// file with that time in the place of its own, and each level is at most 2 * m + 51. The levels past the last
+// time and the cells past the last block are as they were.
 pub fn series(file: &[u8], times: &[u32], levels: &mut [u64], cells: &mut [u64]) -> Series
-    ensures answer { λ o. ⌜ seriesAnswer o ≡ seriesJudgement (now (file .entry)) (now (times .entry)) (length (now (levels .entry))) (length (now (cells .entry))) ⌝ }
+    ensures answer { λ o. ⌜ seriesAnswer o ≡ seriesOutcome (now (file .entry)) (now (times .entry)) (length (now (levels .entry))) (length (now (cells .entry))) ⌝ }
     ensures levels { λ o. ⌜ now (levels .exit) ≡ levelsAfter (seriesAnswer o) (now (file .entry)) (now (times .entry)) (now (levels .entry)) ⌝ }
     ensures cells { λ o. ⌜ now (cells .exit) ≡ blocksAfter (seriesAnswer o) (now (file .entry)) (now (times .entry)) (now (cells .entry)) ⌝ }
     ensures promise { λ o. ⌜ SeriesPromised (seriesAnswer o) (now (file .entry)) (now (times .entry)) (now (levels .exit)) (now (cells .exit)) ⌝ }
     ensures runs { λ o. ⌜ AreRuns (seriesAnswer o) (now (file .entry)) (now (times .entry)) (now (levels .exit)) (now (cells .entry)) (now (cells .exit)) ⌝ }
+    ensures bounded { λ o. ⌜ LevelsBounded (seriesAnswer o) (now (file .entry)) (now (times .entry)) (now (levels .exit)) ⌝ }
 {
     let judgement = refusals::judge_series(file, times, levels.len(), cells.len());
     match judgement {
         Judgement::Refused(row) => Series::Refused(row),
-        Judgement::Accepted => {
-            fill_listed(file, times, levels, cells);
-            Series::Accepted
-        }
+        Judgement::Accepted => Series::Solved(fill_listed(file, times, levels, cells)),
     }
 }

@@ -5,7 +5,7 @@
 // by value and the new one comes back: no vector changes while it is read.
 ghost use mathlib.Core.Path.{_≡_};
 ghost use mathlib.Core.List.{List};
-ghost use Prim.Native.Nat.{ℕ, _+_, _*_, _-_, _≤_};
+ghost use Prim.Native.Nat.{ℕ, _+_, _*_, _-_, _^_, _<_, _≤_};
 ghost use lib.ListN.{getD};
 ghost use Rattle.definitions.specs.Division.{division};
 ghost use Rattle.definitions.specs.Chain.{Listing, listed, arrays, padded};
@@ -61,7 +61,8 @@ pub fn mix(n: u64, r: u64, v: u64, w: u64) -> Division
     muldiv::divide(n * v + r * w, n + r)
 }
 
-// U(n,r) of U(n-1,r), before, and U(n,r-1), same: at the states, and 0 past them. The three remainders are dropped.
+// U(n,r) of U(n-1,r), before, and U(n,r-1), same: at the states, and 0 past them. The three remainders are dropped. Each row
+// mean adds one to what was taken.
 pub fn step(
     sizes: Sizes,
     targets: &[u8],
@@ -72,14 +73,17 @@ pub fn step(
     r: u64,
     before: [u64; 64],
     same: [u64; 64],
+    taken: &mut u64,
 ) -> [u64; 64]
-    requires { ⌜ StepReady sizes (listed (now targets) (now rates) (now counts)) (now rewards) n r before same ⌝ }
-    ensures { λ u. ⌜ u ≡ padded (sizes .states) (nextEntry (arrays sizes (listed (now (targets .entry)) (now (rates .entry)) (now (counts .entry))) (now (rewards .entry))) n r (entryOf before) (entryOf same)) ⌝ }
+    requires { ⌜ StepReady sizes (listed (now targets) (now rates) (now counts)) (now rewards) n r before same × (now taken + sizes .states < 2 ^ 64) ⌝ }
+    ensures vector { λ u. ⌜ u ≡ padded (sizes .states) (nextEntry (arrays sizes (listed (now (targets .entry)) (now (rates .entry)) (now (counts .entry))) (now (rewards .entry))) n r (entryOf before) (entryOf same)) ⌝ }
+    ensures taken { λ u. ⌜ now (taken .exit) ≡ now (taken .entry) + sizes .states ⌝ }
 {
     let states = sizes.states;
     let mut next = [0u64; 64];
     for i in 0..states {
         let v = row_mean(sizes, targets, rates, counts, &before, i);
+        *taken += 1;
         let w = reward_share(rewards[i], same[i], sizes.largest);
         let u = mix(n, r, v.quotient, w.quotient);
         next[i] = u.quotient;
@@ -127,8 +131,8 @@ pub fn first_table(sizes: Sizes, rewards: &[u64; 64], table: &mut [[u64; 64]; 9]
     }
 }
 
-// The vectors of n in the place of those of n - 1: R steps. Row r is read as U(n-1,r) and becomes U(n,r); the
-// row before it is U(n,r-1) by then.
+// The vectors of n in the place of those of n - 1: R steps, and the row means that they take. Row r is read as U(n-1,r) and
+// becomes U(n,r); the row before it is U(n,r-1) by then.
 pub fn next_table(
     sizes: Sizes,
     targets: &[u8],
@@ -137,10 +141,12 @@ pub fn next_table(
     rewards: &[u64; 64],
     n: u64,
     table: &mut [[u64; 64]; 9],
+    taken: &mut u64,
 )
-    requires { ⌜ Ready sizes (listed (now targets) (now rates) (now counts)) (now rewards) × (sizes .highest ≤ 8) × (1 ≤ n) × (n ≤ 1024) ⌝ }
+    requires { ⌜ Ready sizes (listed (now targets) (now rates) (now counts)) (now rewards) × (sizes .highest ≤ 8) × (1 ≤ n) × (n ≤ 1024) × (now taken + sizes .states * sizes .highest < 2 ^ 64) ⌝ }
     requires { ⌜ now table ≡ tableOf (arrays sizes (listed (now targets) (now rates) (now counts)) (now rewards)) (sizes .highest) (n - 1) ⌝ }
-    ensures { λ t. ⌜ now (table .exit) ≡ tableOf (arrays sizes (listed (now (targets .entry)) (now (rates .entry)) (now (counts .entry))) (now (rewards .entry))) (sizes .highest) n ⌝ }
+    ensures table { λ t. ⌜ now (table .exit) ≡ tableOf (arrays sizes (listed (now (targets .entry)) (now (rates .entry)) (now (counts .entry))) (now (rewards .entry))) (sizes .highest) n ⌝ }
+    ensures taken { λ t. ⌜ now (taken .exit) ≡ now (taken .entry) + sizes .states * sizes .highest ⌝ }
 {
     let highest = sizes.highest;
     for r in 1..highest + 1 {
@@ -156,6 +162,7 @@ pub fn next_table(
             r as u64,
             before,
             same,
+            taken,
         );
     }
 }
@@ -177,6 +184,7 @@ pub fn table_at(
     let mut k: u64 = 0;
     while k < n {
         k += 1;
-        next_table(sizes, targets, rates, counts, rewards, k, table);
+        let mut taken = 0;
+        next_table(sizes, targets, rates, counts, rewards, k, table, &mut taken);
     }
 }

@@ -1,12 +1,14 @@
--- The sums after n terms, and the vectors of n, as n rises to the largest level.
-use Prim.Native.Nat.{ℕ, _+_, _-_, _*_, _≤_}
+-- The sums after n terms, the vectors of n, and the row means up to n, as n rises to the largest level.
+use Prim.Native.Nat.{ℕ, _+_, _-_, _*_, _^_, _≤_, _<_}
 use native.Mathlib.Omega.{arith}
 use native.Mathlib.Nat.{mul-le-mul}
 use mathlib.Core.List.{List}
 use mathlib.Core.Path.{_≡_, refl, sym, _∙_, ap}
 use lib.ListN.{length}
 use Rattle.definitions.specs.Chain.{Chain, listed, arrays}
+use Rattle.definitions.specs.Vectors.{rowMeans}
 use Rattle.laws.specs.ArrayLaws.{zeros}
+use Rattle.laws.specs.VectorLaws.{means-none, means-next, means-max}
 use Rattle.vectors.specs.Table.{blank, tableOf}
 use Rattle.means.specs.Running.{partSums}
 use Rattle.means.specs.RunningLaws.{length-sums, sums-none, sums-again, may-add, added}
@@ -14,11 +16,11 @@ use Rattle.means.proofs.accumulate.Statement.{statement}
 use Rattle.means.proofs.accumulate.Tie as tie
 
 abbrev Inv-loop : tie.InvT-loop
-Inv-loop sizes targets rates counts rewards levels largest weights cells₀ table₀ n₀ cells table n =
-    (n ≤ largest) × (table ≡ tableOf (arrays sizes (listed targets rates counts) rewards) (sizes .highest) n) × (cells ≡ partSums (arrays sizes (listed targets rates counts) rewards) (sizes .block) levels weights (sizes .highest) (n + 1) cells₀)
+Inv-loop sizes targets rates counts rewards levels largest weights cells₀ table₀ taken₀ n₀ cells table taken n =
+    (n ≤ largest) × (taken ≡ rowMeans n (sizes .states) (sizes .highest)) × (table ≡ tableOf (arrays sizes (listed targets rates counts) rewards) (sizes .highest) n) × (cells ≡ partSums (arrays sizes (listed targets rates counts) rewards) (sizes .block) levels weights (sizes .highest) (n + 1) cells₀)
 
 abbrev μ-loop : tie.MeasureT-loop
-μ-loop sizes targets rates counts rewards levels largest weights cells₀ table₀ n₀ cells table n = largest - n
+μ-loop sizes targets rates counts rewards levels largest weights cells₀ table₀ taken₀ n₀ cells table taken n = largest - n
 
 first-table-requires : tie.Need-first-table-requires Inv-loop μ-loop
 unfolding blank zeros
@@ -67,39 +69,46 @@ module _ (b : tie.After-slice-known3 Inv-loop μ-loop) where
   enough = omega (arith, ap (length {A = ℕ}) begun, length-sums ch (start .args .sizes .block) (start .args .levels .now) (start .args .weights .now) (start .args .sizes .highest) (start .args .cells .now) (start .pre .2) 1, start .pre .2)
 
 loop-holds : tie.Need-loop-holds Inv-loop μ-loop
-loop-holds c = (omega arith, table c, begun c ∙ sym (again c 1))
+loop-holds c = (omega arith, sym (means-none (start c .args .sizes .states) (start c .args .sizes .highest)), table c, begun c ∙ sym (again c 1))
 
 next-table-requires : tie.Need-next-table-requires Inv-loop μ-loop
 next-table-requires c κs =
-    let given = start (c .before .before .before) .pre in
-    let turn = c .before .before .loop in
+    let given = start (c .before .before .before .before) .pre in
+    let turn = c .before .before .before .loop in
     let back : turn .n + 1 - 1 ≡ turn .n = omega arith in
-    ((given .0 .ready, given .0 .highest-max, omega arith, omega (arith, given .1 .largest-max)), rw back (turn .inv .1))
+    let z = start (c .before .before .before .before) .args .sizes in
+    let fits : turn .taken + z .states * z .highest < 2 ^ 64 = omega (arith, turn .inv .1, means-next (turn .n) (z .states) (z .highest), means-max (turn .n + 1) (z .states) (z .highest) (omega (arith, given .1 .largest-max)) (given .0 .ready .rewards .states-max) (given .0 .highest-max)) in
+    ((given .0 .ready, given .0 .highest-max, omega arith, omega (arith, given .1 .largest-max), fits), rw back (turn .inv .2))
 
 add-requires-2 : tie.Need-add-to-blocks-requires-2 Inv-loop μ-loop
 add-requires-2 c κs =
-    let b = c .before .before .before .before .before .before in
-    let turn = c .before .before .before .before .before .loop in
-    may-add (start b .args .sizes) _ _ _ _ (start b .pre .0) (first b) (enough b) (turn .n + 1) _ _ (turn .inv .2) (c .before .before .next-table .ensures)
+    let b = c .before .before .before .before .before .before .before in
+    let turn = c .before .before .before .before .before .before .loop in
+    may-add (start b .args .sizes) _ _ _ _ (start b .pre .0) (first b) (enough b) (turn .n + 1) _ _ (turn .inv .3) (c .before .before .next-table .ensures .0)
 
 loop-again : tie.Need-loop-again Inv-loop μ-loop
 loop-again c =
-    let b = c .before .before .before .before .before .before .before .before .before in
-    let turn = c .before .before .before .before .before .before .before .before .loop in
-    let next = c .before .before .before .before .before .next-table .ensures in
-    (omega arith, next, added (start b .args .sizes) _ _ _ _ (start b .pre .0) (first b) (enough b) (turn .n + 1) _ _ _ (turn .inv .2) next (c .before .before .add-to-blocks2 .ensures))
+    let b = c .before .before .before .before .before .before .before .before .before .before in
+    let turn = c .before .before .before .before .before .before .before .before .before .loop in
+    let next = c .before .before .before .before .before .next-table .ensures .0 in
+    (omega arith, omega (arith, turn .inv .1, means-next (turn .n) (start b .args .sizes .states) (start b .args .sizes .highest), c .before .before .before .before .before .next-table .ensures .1), next, added (start b .args .sizes) _ _ _ _ (start b .pre .0) (first b) (enough b) (turn .n + 1) _ _ _ (turn .inv .3) next (c .before .before .add-to-blocks2 .ensures))
 
 -- the sums up to the largest level, over what stood in the cells
 all : (c : tie.After-loop Inv-loop μ-loop) → let b = c .before .before in c .before .loop .cells ≡ sums b (start b .args .largest + 1) (start b .args .cells .now)
 all c =
     let b = c .before .before in
     let done : c .before .loop .n ≡ start b .args .largest = omega arith in
-    rw done at (c .before .loop .inv .2) ∙ again b (start b .args .largest + 1)
+    rw done at (c .before .loop .inv .3) ∙ again b (start b .args .largest + 1)
 
 same-length : tie.Need-same-length Inv-loop μ-loop
 same-length c =
     let b = c .before .before in
     ap (length {A = ℕ}) (all c) ∙ length-sums (ch b) _ _ _ _ (start b .args .cells .now) (start b .pre .2) (start b .args .largest + 1)
+
+returns : tie.Need-returns Inv-loop μ-loop
+returns c =
+    let done : c .before .loop .n ≡ start (c .before .before) .args .largest = omega arith in
+    (all c, rw done at (c .before .loop .inv .1))
 
 pub accumulate-spec : {M : Type 1} → statement M
 accumulate-spec =
@@ -118,4 +127,4 @@ accumulate-spec =
     (λ c. omega arith)
     loop-again
     same-length
-    all)
+    returns)

@@ -1,10 +1,11 @@
 -- The weights and levels, the sums and their quotients, one after the other.
-use Prim.Native.Nat.{_≤_}
+use Prim.Native.Nat.{ℕ, _≤_}
 use native.Mathlib.Omega.{arith}
-use mathlib.Core.Path.{sym, _∙_}
+use mathlib.Core.Path.{sym, _∙_, ap}
 use lib.ListN.{length}
 use lib.Seq.{length-take-le}
 use borrow.Author.Needs.{needs}
+use Rattle.definitions.specs.Vectors.{rowMeans}
 use Rattle.means.specs.SolvingLaws.{topmost, summable, used-room, divisible, means-are}
 use Rattle.means.proofs.solve.Statement.{statement}
 use Rattle.means.proofs.solve.Tie as tie
@@ -32,14 +33,15 @@ divide-requires : tie.Need-divide-blocks-requires
 divide-requires c κs =
     let d = c .before .before .before .before .before .before .before .before .before .before .before .before .before in
     let begin = start d in
-    divisible _ _ _ _ _ (begin .pre .0) _ _ _ _ _ (d .truncate-each .ensures) (begin .pre .1 .1) (begin .args .cells .now) (begin .pre .1 .2) (totals-held d) _ (c .before .before .before .before .accumulate .ensures)
+    divisible _ _ _ _ _ (begin .pre .0) _ _ _ _ _ (d .truncate-each .ensures) (begin .pre .1 .1) (begin .args .cells .now) (begin .pre .1 .2) (totals-held d) _ (c .before .before .before .before .accumulate .ensures .0)
 
 returns : tie.Need-returns
 returns c =
     let d = c .before .before .before .before .before .before .before .before .before .before .before .before .before .before .before .before in
     let begin = start d in
     let cut = d .truncate-each .ensures in
-    (cut .are-levels, c .before .before .divide-blocks .ensures ∙ means-are _ _ _ _ _ (begin .pre .0) _ _ _ _ _ cut (begin .pre .1 .1) (begin .args .cells .now) (begin .pre .1 .2) (totals-held d) _ (c .before .before .before .before .before .before .before .accumulate .ensures))
+    let summed = c .before .before .before .before .before .before .before .accumulate .ensures in
+    (cut .are-levels, (c .before .before .divide-blocks .ensures ∙ means-are _ _ _ _ _ (begin .pre .0) _ _ _ _ _ cut (begin .pre .1 .1) (begin .args .cells .now) (begin .pre .1 .2) (totals-held d) _ (summed .0), summed .1 ∙ ap (λ (N : ℕ). rowMeans N (begin .args .sizes .states) (begin .args .sizes .highest)) (cut .is-largest)))
 
 pub solve-spec : {M : Type 1} → statement M
 solve-spec =

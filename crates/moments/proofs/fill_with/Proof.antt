@@ -12,7 +12,7 @@ use Rattle.laws.specs.ChainLaws.{rate-at}
 use Rattle.laws.specs.ListLaws.{getD-over}
 use Rattle.arrows.specs.RowLaws.{rows-listed}
 use Rattle.moments.specs.Filling.{ReadAs, started}
-use Rattle.moments.specs.FillingLaws.{solvable, block-room, levels-are, startable, blocks-are}
+use Rattle.moments.specs.FillingLaws.{solvable, block-room, levels-are, counted, startable, blocks-are}
 use borrow.Author.Needs.{needs}
 use Rattle.moments.proofs.fill_with.Statement.{statement}
 use Rattle.moments.proofs.fill_with.Tie as tie
@@ -94,16 +94,16 @@ module _ (S : tie.After-solve) where
 put-starts-requires : tie.Need-put-starts-requires
 put-starts-requires c κs =
     let S = c .before .before .before .before .before .before .before in
-    startable (begin S .args .file .now) (times (d S)) _ _ (begin S .pre .0) _ _ _ _ _ (r S) (begin S .args .cells .now) (begin S .pre .0 .block-room) _ (S .solve .ensures .1)
+    startable (begin S .args .file .now) (times (d S)) _ _ (begin S .pre .0) _ _ _ _ _ (r S) (begin S .args .cells .now) (begin S .pre .0 .block-room) _ (S .solve .ensures .1 .0)
 
 returns : tie.Need-returns
 returns c =
     let S = c .before .before .before .before .before .before .before .before .before .before in
     let same : sized (d S) .sizes-of .result .block ≡ blockSize (begin S .args .file .now) = ap (λ (z : Sizes). z .block) (sized (d S) .sizes-of .ensures) in (
-      S .solve .ensures .0 ∙ levels-are (begin S .args .file .now) (times (d S)) _ _ (begin S .pre .0) _ _ _ _ _ (r S) _,
-      c .before .before .put-starts .ensures
+      S .solve .ensures .0 ∙ levels-are (begin S .args .file .now) (times (d S)) _ _ (begin S .pre .0) _ _ _ _ _ (r S) _ _,
+      (c .before .before .put-starts .ensures
           ∙ ap (λ (b : ℕ). started (modelOf (begin S .args .file .now)) b (length (times (d S))) (S .solve .last .1 .1 .1 .1 .1 .1 .1 .1 .1 .0)) same
-          ∙ blocks-are (begin S .args .file .now) (times (d S)) _ _ (begin S .pre .0) _ _ _ _ _ (r S) (begin S .args .cells .now) (begin S .pre .0 .block-room) _ (S .solve .ensures .1),
+          ∙ blocks-are (begin S .args .file .now) (times (d S)) _ _ (begin S .pre .0) _ _ _ _ _ (r S) (begin S .args .cells .now) (begin S .pre .0 .block-room) _ (S .solve .ensures .1 .0) _, S .solve .ensures .1 .1 ∙ counted (begin S .args .file .now) (times (d S)) _ _ (begin S .pre .0) _ _ _ _ _ (r S)),
     )
 
 pub fill-with-spec : {M : Type 1} → statement M

@@ -1,10 +1,11 @@
--- A refused list touches no level and no cell; an accepted one has its levels and blocks filled. They are those of runs, and demand 3 holds of them.
+-- A refused list touches no level and no cell; an accepted one has its levels and blocks filled. They are those of runs, demand 3 holds of them, and the
+-- levels' bound.
 use mathlib.Core.Path.{_≡_, refl, sym, _∙_, ap}
 use lib.ListN.{length}
 use Rattle.definitions.specs.Rules.{accepted, seriesJudgement, verdict}
 use Rattle.definitions.specs.Series.{levelsAfter, blocksAfter}
 use Rattle.laws.specs.Acceptance.{accepted-series}
-use Rattle.laws.specs.SeriesLaws.{series-runs, series-promised}
+use Rattle.laws.specs.SeriesLaws.{series-runs, series-promised, series-bounded, series-refused, series-accepted}
 use borrow.Author.Needs.{needs}
 use Rattle.moments.proofs.series.Statement.{statement}
 use Rattle.moments.proofs.series.Tie as tie
@@ -14,7 +15,7 @@ fill-requires c κs = accepted-series _ _ _ _ (sym (c .before .before .before .b
 
 returns : tie.Need-returns
 unfolding levelsAfter blocksAfter
-returns c = (sym (ap verdict (c .before .judgement .given .1)) ∙ c .before .before .before .judge-series .ensures, (refl, (refl, (tt, tt))))
+returns c = (sym (series-refused _ _ _ _ _ (sym (c .before .before .before .judge-series .ensures) ∙ ap verdict (c .before .judgement .given .1))), (refl, (refl, (tt, (tt, tt)))))
 
 returns-2 : tie.Need-returns-2
 returns-2 c =
@@ -25,7 +26,9 @@ returns-2 c =
     let cells = start .args .cells .now in
     let passed : seriesJudgement s times (length levels) (length cells) ≡ accepted tt = sym (c .before .before .before .before .before .before .before .before .before .judge-series .ensures) ∙ ap verdict (c .before .before .before .before .before .before .before .enum-told .given .1) in
     let filled = c .before .before .before .before .fill-listed .ensures in
-    (sym passed, (filled .0, (filled .1, (rw (filled .0, filled .1) (series-promised s times levels cells passed), rw (filled .0, filled .1) (series-runs s times levels cells passed)))))
+    let n = c .before .before .before .before .fill-listed .result in
+    let answer = ap accepted (filled .1 .1) ∙ sym (series-accepted s times (length levels) (length cells) passed) in
+    (answer, (filled .0, (filled .1 .0, (rw (filled .0, filled .1 .0) (series-promised s times levels cells n passed), (rw (filled .0, filled .1 .0) (series-runs s times levels cells n passed), rw (filled .0) (series-bounded s times levels (length cells) n passed))))))
 
 pub series-spec : {M : Type 1} → statement M
 series-spec =

@@ -1,6 +1,6 @@
--- `vectors::step` meets its contract. The invariant: the states passed have U(n,r). Assumes nothing.
+-- `vectors::step` meets its contract. The invariant: the states passed have U(n,r), and each took a row mean. Assumes nothing.
 use mathlib.Core.Path.{_≡_, sym, _∙_, ap, ap₂}
-use Prim.Native.Nat.{ℕ, _-_, _≤_}
+use Prim.Native.Nat.{ℕ, _+_, _-_, _≤_}
 use native.Mathlib.Omega.{arith}
 use denote.Ref.{now}
 use Rattle.definitions.specs.Sums.{over}
@@ -14,11 +14,11 @@ use Rattle.vectors.proofs.step.Statement.{statement}
 use Rattle.vectors.proofs.step.Tie as tie
 
 abbrev Inv-loop : tie.InvT-loop
-Inv-loop sizes targets rates counts rewards n r before same states next₀ i₀ next i =
-    (i ≤ states) × (next ≡ over i (nextEntry (arrays sizes (listed targets rates counts) rewards) n r (entryOf before) (entryOf same)) (zeros 64))
+Inv-loop sizes targets rates counts rewards n r taken₀ before same states next₀ i₀ taken next i =
+    (i ≤ states) × (taken ≡ taken₀ + i) × (next ≡ over i (nextEntry (arrays sizes (listed targets rates counts) rewards) n r (entryOf before) (entryOf same)) (zeros 64))
 
 abbrev μ-loop : tie.MeasureT-loop
-μ-loop sizes targets rates counts rewards n r before same states next₀ i₀ next i = states - i
+μ-loop sizes targets rates counts rewards n r taken₀ before same states next₀ i₀ taken next i = states - i
 
 -- U(n,r) of the arguments
 abbrev u : tie.Start Inv-loop μ-loop → ℕ → ℕ
@@ -28,35 +28,36 @@ u start =
 
 loop-holds : tie.Need-loop-holds Inv-loop μ-loop
 unfolding zeros
-loop-holds c = (omega arith, sym (over-none (u (c .before .before)) (zeros 64)))
+loop-holds c = (omega arith, omega arith, sym (over-none (u (c .before .before)) (zeros 64)))
 
 row-mean-requires : tie.Need-row-mean-requires Inv-loop μ-loop
-row-mean-requires c κs = row-ready (c .before .before .before .before .before .pre) (c .before .before .loop .i) (omega arith)
+row-mean-requires c κs = row-ready (c .before .before .before .before .before .pre .0) (c .before .before .loop .i) (omega arith)
 
 reward-share-requires : tie.Need-reward-share-requires Inv-loop μ-loop
 reward-share-requires c κs =
-    let given = c .before .before .before .before .before .before .before .pre in
-    let i = c .before .before .before .before .loop .i in
+    let given = c .before .before .before .before .before .before .before .before .pre .0 in
+    let i = c .before .before .before .before .before .loop .i in
     omega (arith, given .ready .rewards .reward i (omega arith), given .same-ticks .below i (omega arith))
 
 mix-requires : tie.Need-mix-requires Inv-loop μ-loop
 unfolding rowMean rewardShare
 mix-requires c κs =
-    let start = c .before .before .before .before .before .before .before .before in
-    let mean = c .before .before .row-mean in
-    mix-ready (start .pre) (c .before .before .before .before .before .loop .i) (omega arith) (mean .result .quotient) (c .reward-share .result .quotient)
+    let start = c .before .before .before .before .before .before .before .before .before in
+    let mean = c .before .before .before .row-mean in
+    mix-ready (start .pre .0) (c .before .before .before .before .before .before .loop .i) (omega arith) (mean .result .quotient) (c .reward-share .result .quotient)
     (ap quotient (mean .ensures (now (start .args .rewards)))) (ap quotient (c .reward-share .ensures))
 
 loop-again : tie.Need-loop-again Inv-loop μ-loop
 unfolding rowMean rewardShare mix nextEntry
 loop-again c =
-    let start = c .before .before .before .before .before .before .before .before .before in
-    let turn = c .before .before .before .before .before .before .loop in
+    let start = c .before .before .before .before .before .before .before .before .before .before in
+    let turn = c .before .before .before .before .before .before .before .loop in
     let args = start .args in
-    let mean = ap quotient (c .before .before .before .row-mean .ensures (now (args .rewards))) in
+    let mean = ap quotient (c .before .before .before .before .row-mean .ensures (now (args .rewards))) in
     let share = ap quotient (c .before .reward-share .ensures) in (
       omega arith,
-      over-store (turn .i) (u start) (zeros 64) (turn .next) (c .mix .result .quotient) (omega (arith, length-zeros 64)) (turn .inv .1)
+      omega arith,
+      over-store (turn .i) (u start) (zeros 64) (turn .next) (c .mix .result .quotient) (omega (arith, length-zeros 64)) (turn .inv .2)
           (ap quotient (c .mix .ensures) ∙ ap₂ (mix (args .n) (args .r)) mean share),
     )
 
@@ -65,7 +66,7 @@ returns c =
     let start = c .before .before .before .before in
     let turn = c .before .loop in
     let all : turn .i ≡ start .args .sizes .states = omega arith in
-    rw all at (turn .inv .1) ∙ over-padded _ (u start) (omega arith)
+    (rw all at (turn .inv .2) ∙ over-padded _ (u start) (omega arith), omega arith)
 
 pub step-spec : {M : Type 1} → statement M
 step-spec =
@@ -75,6 +76,7 @@ step-spec =
     μ-loop
     loop-holds
     row-mean-requires
+    (λ c. omega arith)
     (λ c. omega arith)
     (λ c. omega arith)
     (λ c. omega arith)

@@ -1,6 +1,7 @@
 -- `vectors::table_at` meets its contract. The invariant: the table is that of k. Assumes nothing.
 use Prim.Native.Nat.{_+_, _-_, _≤_}
 use native.Mathlib.Omega.{arith}
+use native.Mathlib.Nat.{mul-le-mul}
 use mathlib.Core.Path.{_≡_}
 use Rattle.definitions.specs.Chain.{listed, arrays}
 use Rattle.vectors.specs.Table.{tableOf}
@@ -20,10 +21,10 @@ first-table-requires c κs =
 
 next-table-requires : tie.Need-next-table-requires Inv-loop μ-loop
 next-table-requires c κs =
-    let given = c .before .before .before .before .before .before .before .pre in
-    let turn = c .before .before .loop in
+    let given = c .before .before .before .before .before .before .before .before .pre in
+    let turn = c .before .before .before .loop in
     let back : turn .k + 1 - 1 ≡ turn .k = omega arith in
-    ((given .0, given .1, omega arith, omega arith), rw back (turn .inv .1))
+    ((given .0, given .1, omega arith, omega arith, omega (arith, mul-le-mul {n₂ = 64} {m₂ = 8} (given .0 .rewards .states-max) (given .1))), rw back (turn .inv .1))
 
 returns : tie.Need-returns Inv-loop μ-loop
 returns c =
@@ -41,5 +42,5 @@ table-at-spec =
     (λ c. omega arith)
     next-table-requires
     (λ c. omega arith)
-    (λ c. (omega arith, c .next-table .ensures))
+    (λ c. (omega arith, c .next-table .ensures .0))
     returns)
