@@ -18,11 +18,12 @@ def chain_of(rates):
 
 
 def vectors(rates, rewards, highest, last):
-    """U[n, r] for n = 0 to last, r = 0 to highest."""
+    """U[n, r] for n = 0 to last, r = 0 to highest, and the number of row means taken."""
     chain, rate = chain_of(rates)
     states = range(len(rates))
     largest = max(rewards)
     u = {}
+    taken = 0
     for n in range(last + 1):
         u[n, 0] = [ONE for _ in states]
         for r in range(1, highest + 1):
@@ -31,16 +32,18 @@ def vectors(rates, rewards, highest, last):
                 u[n, r] = share
             else:
                 mean = [sum(chain[i][j] * u[n - 1, r][j] for j in states) // rate for i in states]
+                taken += len(mean)
                 u[n, r] = [(n * mean[i] + r * share[i]) // (n + r) for i in states]
-    return u
+    return u, taken
 
 
 def lines(rates, rewards, highest, last):
-    u = vectors(rates, rewards, highest, last)
+    u, taken = vectors(rates, rewards, highest, last)
     for n in range(last + 1):
         if n <= 3 or n == last:
             for r in range(highest + 1):
                 yield " ".join(str(x) for x in [n, r] + u[n, r])
+    yield str(taken)
 
 
 def file_of(rates, rewards, highest, tolerance, time):

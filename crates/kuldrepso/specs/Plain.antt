@@ -15,16 +15,10 @@ unfoldable pub plainAnswer : Answer ℕ → ℕ
 plainAnswer (accepted n) = n
 plainAnswer (refused k) = refusalsFrom + k
 
--- an acceptance that says no more, as one that returns n
-abbrev pub returning : ℕ → Answer (Unit {0}) → Answer ℕ
-returning n (accepted tt) = accepted n
-returning n (refused k) = refused k
-
 -- remainders that are given go out as 0, and none as 1
-abbrev pub givenOrNone : Answer (Maybe Rests) → Answer ℕ
-givenOrNone (accepted (given x)) = accepted 0
-givenOrNone (accepted none) = accepted 1
-givenOrNone (refused k) = refused k
+abbrev pub givenOrNone : Maybe Rests → ℕ
+givenOrNone (given x) = 0
+givenOrNone none = 1
 
 -- an answer with the numbers that are lent for the remainders in the place of those that it gives
 abbrev pub withNumbers : Answer (Maybe Rests) → Rests → Answer (Maybe Rests)

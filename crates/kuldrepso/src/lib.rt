@@ -3,15 +3,15 @@
 // C knows no enum of Rattle's, so an answer goes out as one plain number. A slice comes as a pointer and a length.
 ghost use mathlib.Core.Path.{_≡_};
 ghost use lib.ListN.{length};
-ghost use Rattle.definitions.specs.Rules.{seriesJudgement};
-ghost use Rattle.definitions.specs.Moment.{outcome, cellsAfter};
+ghost use Rattle.definitions.specs.Rules.{saying};
+ghost use Rattle.definitions.specs.Moment.{outcome, cellsAfter, countAfter, LevelBounded};
 ghost use Rattle.definitions.specs.Promise.{Promised};
-ghost use Rattle.definitions.specs.Series.{levelsAfter, blocksAfter, AreRuns, SeriesPromised};
+ghost use Rattle.definitions.specs.Series.{seriesOutcome, levelsAfter, blocksAfter, AreRuns, SeriesPromised, LevelsBounded};
 ghost use Rattle.definitions.specs.Remainders.{remaindersOf, numberAfter, WorkedOut};
 ghost use Rattle.definitions.specs.Written.{countOf, bytesAfter, writtenAnswer};
 ghost use Rattle.definitions.specs.Convert.{toVersion2, toVersion1, ThereAndBack};
 ghost use Rattle.definitions.specs.Practice.{practice, DealtWell};
-ghost use Rattle.kuldrepso.specs.Plain.{plainAnswer, returning, givenOrNone, withNumbers};
+ghost use Rattle.kuldrepso.specs.Plain.{plainAnswer, givenOrNone, withNumbers};
 use definitions::Outcome;
 use definitions::Remainders;
 use definitions::Series;
@@ -26,35 +26,48 @@ const GIVEN: u64 = 0;
 
 const NONE: u64 = 1;
 
-// moments::calculate, with the level N for an acceptance and REFUSED + k for refusal k.
+// moments::calculate, with the level N for an acceptance and REFUSED + k for refusal k. An acceptance writes the number of
+// row means to its own number, which else stays.
 #[no_mangle]
-pub extern "C" fn kuldrepso_calculate(file: &[u8], cells: &mut [u64]) -> u64
-    ensures answer { λ r. ⌜ r ≡ plainAnswer (outcome (now (file .entry)) (length (now (cells .entry)))) ⌝ }
+pub extern "C" fn kuldrepso_calculate(file: &[u8], cells: &mut [u64], means: &mut u64) -> u64
+    ensures answer { λ r. ⌜ r ≡ plainAnswer (saying (λ x. x .level) (outcome (now (file .entry)) (length (now (cells .entry))))) ⌝ }
     ensures cells { λ r. ⌜ now (cells .exit) ≡ cellsAfter (outcome (now (file .entry)) (length (now (cells .entry)))) (now (file .entry)) (now (cells .entry)) ⌝ }
     ensures promise { λ r. ⌜ Promised (outcome (now (file .entry)) (length (now (cells .entry)))) (now (file .entry)) (now (cells .exit)) ⌝ }
+    ensures bounded { λ r. ⌜ LevelBounded (outcome (now (file .entry)) (length (now (cells .entry)))) (now (file .entry)) ⌝ }
+    ensures means { λ r. ⌜ now (means .exit) ≡ countAfter (saying (λ x. x .means) (outcome (now (file .entry)) (length (now (cells .entry))))) (now (means .entry)) ⌝ }
 {
     match moments::calculate(file, cells) {
-        Outcome::Level(level) => level,
+        Outcome::Solved(run) => {
+            *means = run.means;
+            run.level
+        }
         Outcome::Refused(row) => REFUSED + row as u64,
     }
 }
 
-// moments::series, with the number of times for an acceptance and REFUSED + k for refusal k.
+// moments::series, with the number of times for an acceptance and REFUSED + k for refusal k. An acceptance writes the number
+// of row means to its own number, which else stays.
 #[no_mangle]
 pub extern "C" fn kuldrepso_series(
     file: &[u8],
     times: &[u32],
     levels: &mut [u64],
     cells: &mut [u64],
+    means: &mut u64,
 ) -> u64
-    ensures answer { λ r. ⌜ r ≡ plainAnswer (returning (length (now (times .entry))) (seriesJudgement (now (file .entry)) (now (times .entry)) (length (now (levels .entry))) (length (now (cells .entry))))) ⌝ }
-    ensures levels { λ r. ⌜ now (levels .exit) ≡ levelsAfter (seriesJudgement (now (file .entry)) (now (times .entry)) (length (now (levels .entry))) (length (now (cells .entry)))) (now (file .entry)) (now (times .entry)) (now (levels .entry)) ⌝ }
-    ensures cells { λ r. ⌜ now (cells .exit) ≡ blocksAfter (seriesJudgement (now (file .entry)) (now (times .entry)) (length (now (levels .entry))) (length (now (cells .entry)))) (now (file .entry)) (now (times .entry)) (now (cells .entry)) ⌝ }
-    ensures promise { λ r. ⌜ SeriesPromised (seriesJudgement (now (file .entry)) (now (times .entry)) (length (now (levels .entry))) (length (now (cells .entry)))) (now (file .entry)) (now (times .entry)) (now (levels .exit)) (now (cells .exit)) ⌝ }
-    ensures runs { λ r. ⌜ AreRuns (seriesJudgement (now (file .entry)) (now (times .entry)) (length (now (levels .entry))) (length (now (cells .entry)))) (now (file .entry)) (now (times .entry)) (now (levels .exit)) (now (cells .entry)) (now (cells .exit)) ⌝ }
+    ensures answer { λ r. ⌜ r ≡ plainAnswer (saying (λ n. length (now (times .entry))) (seriesOutcome (now (file .entry)) (now (times .entry)) (length (now (levels .entry))) (length (now (cells .entry))))) ⌝ }
+    ensures levels { λ r. ⌜ now (levels .exit) ≡ levelsAfter (seriesOutcome (now (file .entry)) (now (times .entry)) (length (now (levels .entry))) (length (now (cells .entry)))) (now (file .entry)) (now (times .entry)) (now (levels .entry)) ⌝ }
+    ensures cells { λ r. ⌜ now (cells .exit) ≡ blocksAfter (seriesOutcome (now (file .entry)) (now (times .entry)) (length (now (levels .entry))) (length (now (cells .entry)))) (now (file .entry)) (now (times .entry)) (now (cells .entry)) ⌝ }
+    ensures promise { λ r. ⌜ SeriesPromised (seriesOutcome (now (file .entry)) (now (times .entry)) (length (now (levels .entry))) (length (now (cells .entry)))) (now (file .entry)) (now (times .entry)) (now (levels .exit)) (now (cells .exit)) ⌝ }
+    ensures runs { λ r. ⌜ AreRuns (seriesOutcome (now (file .entry)) (now (times .entry)) (length (now (levels .entry))) (length (now (cells .entry)))) (now (file .entry)) (now (times .entry)) (now (levels .exit)) (now (cells .entry)) (now (cells .exit)) ⌝ }
+    ensures bounded { λ r. ⌜ LevelsBounded (seriesOutcome (now (file .entry)) (now (times .entry)) (length (now (levels .entry))) (length (now (cells .entry)))) (now (file .entry)) (now (times .entry)) (now (levels .exit)) ⌝ }
+    ensures means { λ r. ⌜ now (means .exit) ≡ countAfter (seriesOutcome (now (file .entry)) (now (times .entry)) (length (now (levels .entry))) (length (now (cells .entry)))) (now (means .entry)) ⌝ }
 {
     match moments::series(file, times, levels, cells) {
-        Series::Accepted => times.len() as u64,
+        Series::Solved(taken) => {
+            *means = taken;
+            times.len() as u64
+        }
         Series::Refused(k) => REFUSED + k as u64,
     }
 }
@@ -71,7 +84,7 @@ pub extern "C" fn kuldrepso_remainders(
     share: &mut u64,
     mix: &mut u64,
 ) -> u64
-    ensures answer { λ a. ⌜ a ≡ plainAnswer (givenOrNone (remaindersOf (now (file .entry)) state n r)) ⌝ }
+    ensures answer { λ a. ⌜ a ≡ plainAnswer (saying givenOrNone (remaindersOf (now (file .entry)) state n r)) ⌝ }
     ensures mean { λ a. ⌜ now (mean .exit) ≡ numberAfter (remaindersOf (now (file .entry)) state n r) (λ x. x .mean) (now (mean .entry)) ⌝ }
     ensures share { λ a. ⌜ now (share .exit) ≡ numberAfter (remaindersOf (now (file .entry)) state n r) (λ x. x .share) (now (share .entry)) ⌝ }
     ensures mix { λ a. ⌜ now (mix .exit) ≡ numberAfter (remaindersOf (now (file .entry)) state n r) (λ x. x .mix) (now (mix .entry)) ⌝ }

@@ -14,11 +14,11 @@ use Rattle.definitions.specs.Vectors.{ONE}
 use Rattle.definitions.specs.Weights.{mode, weight, weightSum}
 use Rattle.definitions.specs.Level.{lastLevel}
 use Rattle.definitions.specs.Moment.{term, weighted, lastQuotient, weightedMean, moment, startFigure, cellOf, figureOf, cell, modelLevel, runOf, outcome}
-use Rattle.definitions.specs.Rules.{Answer, accepted, refused, rows, judgement}
+use Rattle.definitions.specs.Rules.{accepted, refused, rows, judgement}
 use Rattle.laws.specs.Rounding.{quotient-at-most, quotient-below, quotient-unique, remainder-below, remainder-unique, row-of-place, place-in-row, place-below}
 use Rattle.laws.specs.Nearest.{nearest-within, nearest-at-most, nearest-up, nearest-down, nearest-rounds}
 use Rattle.laws.specs.SumLaws.{sum-mono, sum-same}
-use Rattle.laws.specs.RuleLaws.{accepted-is-no-refusal, other-value}
+use Rattle.laws.specs.RuleLaws.{also-refused, also-accepted}
 use Rattle.laws.specs.ListLaws.{getD-over}
 use Rattle.laws.specs.WeightLaws.{weightSum-min}
 use Rattle.laws.specs.Acceptance.{WithinLimits}
@@ -131,16 +131,13 @@ level-bounded m g = level-last (jumpMillionths m) (m .tolerance) (g .jumps-max) 
 -- the outcome of a refused file, and of an accepted one
 pub outcome-refused : (s : List ℕ) (cells k : ℕ) → judgement s cells ≡ refused k → outcome s cells ≡ refused k
 unfolding outcome judgement
-outcome-refused s cells k e = other-value (rows s cells) (tt {0}) (runOf (modelOf s)) ∙ rw e refl
+outcome-refused s cells k e = also-refused (rows s cells) (tt {0}) (runOf (modelOf s)) k e
 
 pub outcome-accepted : (s : List ℕ) (cells : ℕ) → judgement s cells ≡ accepted tt → outcome s cells ≡ accepted (runOf (modelOf s))
 unfolding outcome judgement
-outcome-accepted s cells e = other-value (rows s cells) (tt {0}) (runOf (modelOf s)) ∙ rw e refl
+outcome-accepted s cells e = also-accepted (rows s cells) (tt {0}) tt (runOf (modelOf s)) e
 
 -- a run is answered of an accepted file alone
 pub run-judged : (s : List ℕ) (cells : ℕ) (run : Run) → outcome s cells ≡ accepted run → judgement s cells ≡ accepted tt
-run-judged s cells run e = from (judgement s cells) refl
-  where
-    from : (j : Answer (Unit {0})) → judgement s cells ≡ j → judgement s cells ≡ accepted tt
-    from (accepted tt) h = h
-    from (refused k) h = absurd (accepted-is-no-refusal run k (sym e ∙ outcome-refused s cells k h))
+unfolding outcome judgement
+run-judged s cells run e = also-accepted (rows s cells) (runOf (modelOf s)) run (tt {0}) e

@@ -54,6 +54,13 @@ in-parts (row ∷ later) u a b =
 pub other-value : {A B : Type 0} (t : Rows) (a : A) (b : B) → firstHeld t b ≡ andThen (firstHeld t a) (accepted b)
 other-value t a b = rw append-nil at (in-parts t [] a b) ∙ (unfold firstHeld in refl)
 
+-- so one table refuses, or accepts, whatever it returns
+pub also-refused : {A B : Type 0} (t : Rows) (a : A) (b : B) (k : ℕ) → firstHeld t a ≡ refused k → firstHeld t b ≡ refused k
+also-refused t a b k e = other-value t a b ∙ rw e refl
+
+pub also-accepted : {A B : Type 0} (t : Rows) (a x : A) (b : B) → firstHeld t a ≡ accepted x → firstHeld t b ≡ accepted b
+also-accepted t a x b e = other-value t a b ∙ rw e refl
+
 -- no row of a table holds
 abbrev pub NoneHold : Rows → Type 0
 NoneHold [] = Unit {0}

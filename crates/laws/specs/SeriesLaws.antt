@@ -15,7 +15,7 @@ use Rattle.definitions.specs.Rules.{accepted, refused, framing, quantities, jum
 use Rattle.definitions.specs.Moment.{cell, modelLevel, runTo, runOf, cellsAfter}
 use Rattle.definitions.specs.Promise.{Promise}
 use Rattle.definitions.specs.Series.{modelAt, levelAt, meansOfAll, seriesOutcome, levelsAfter, blocksAfter, block, IsRun, AreRuns, SeriesPromised, LevelsBounded}
-use Rattle.laws.specs.RuleLaws.{NoneHold, all-pass, none-together, other-value}
+use Rattle.laws.specs.RuleLaws.{NoneHold, all-pass, none-together, also-refused, also-accepted}
 use Rattle.laws.specs.ListLaws.{getD-over}
 use Rattle.laws.specs.ByteLaws.{big-same, sets-before, sets-after, big-stored}
 use Rattle.laws.specs.BlockLaws.{block-end, block-is}
@@ -179,8 +179,13 @@ series-bounded s times levels cells n passed k h =
 -- the outcome of a refused list, and of an accepted one
 pub series-refused : (s times : List ℕ) (levels cells k : ℕ) → seriesJudgement s times levels cells ≡ refused k → seriesOutcome s times levels cells ≡ refused k
 unfolding seriesOutcome seriesJudgement
-series-refused s times levels cells k e = other-value (seriesRows s times levels cells) (tt {0}) (meansOfAll s times) ∙ rw e refl
+series-refused s times levels cells k e = also-refused (seriesRows s times levels cells) (tt {0}) (meansOfAll s times) k e
 
 pub series-accepted : (s times : List ℕ) (levels cells : ℕ) → seriesJudgement s times levels cells ≡ accepted tt → seriesOutcome s times levels cells ≡ accepted (meansOfAll s times)
 unfolding seriesOutcome seriesJudgement
-series-accepted s times levels cells e = other-value (seriesRows s times levels cells) (tt {0}) (meansOfAll s times) ∙ rw e refl
+series-accepted s times levels cells e = also-accepted (seriesRows s times levels cells) (tt {0}) tt (meansOfAll s times) e
+
+-- row means are answered of an accepted list alone
+pub series-judged : (s times : List ℕ) (levels cells n : ℕ) → seriesOutcome s times levels cells ≡ accepted n → seriesJudgement s times levels cells ≡ accepted tt
+unfolding seriesOutcome seriesJudgement
+series-judged s times levels cells n e = also-accepted (seriesRows s times levels cells) (meansOfAll s times) n (tt {0}) e

@@ -33,7 +33,17 @@ fn rests_at(
     let mut table = [zeros; 9];
     vectors::table_at(sizes, targets, rates, counts, rewards, n - 1, &mut table);
     let before = table;
-    vectors::next_table(sizes, targets, rates, counts, rewards, n, &mut table);
+    let mut taken = 0;
+    vectors::next_table(
+        sizes,
+        targets,
+        rates,
+        counts,
+        rewards,
+        n,
+        &mut table,
+        &mut taken,
+    );
     let v = vectors::row_mean(sizes, targets, rates, counts, &before[r], i);
     let w = vectors::reward_share(rewards[i], table[r - 1][i], sizes.largest);
     let u = vectors::mix(n, r as u64, v.quotient, w.quotient);

@@ -5,6 +5,7 @@ use Prim.Native.Nat.{ℕ, _+_, _≤_}
 use native.Mathlib.Nat.{mul-le-mul-right}
 use native.Mathlib.Omega.{arith}
 use lib.ListN.{length, take, replicate}
+use Rattle.definitions.specs.declared.Run.{Run}
 use Rattle.definitions.specs.File.{stateCount, highestMoment, distributions}
 use Rattle.definitions.specs.Rules.{Answer, refused, blockSize}
 use Rattle.definitions.specs.Moment.{outcome, cellsAfter}
@@ -16,14 +17,14 @@ use Rattle.sheet.specs.Printable.{Shape}
 use Rattle.report.specs.Held.{Holds}
 
 -- of an answer with the file's states, moments, block and cells
-pub level-sheet : (s : List ℕ) {a : Answer ℕ} {M R block : ℕ} {cells old new : List ℕ} {n : ℕ} → a ≡ outcome s lentCells → M ≡ stateCount s → R ≡ highestMoment s → block ≡ blockSize s → cells ≡ cellsAfter a s (replicate lentCells 0) → Printed (sheetOf a M R block cells) old new n → Printed (sheet s) old new n
+pub run-sheet : (s : List ℕ) {a : Answer Run} {M R block : ℕ} {cells old new : List ℕ} {n : ℕ} → a ≡ outcome s lentCells → M ≡ stateCount s → R ≡ highestMoment s → block ≡ blockSize s → cells ≡ cellsAfter a s (replicate lentCells 0) → Printed (sheetOf a M R block cells) old new n → Printed (sheet s) old new n
 unfolding sheet
-level-sheet s e em er eb ec p = rw (em, er, eb, ec, e) at p
+run-sheet s e em er eb ec p = rw (em, er, eb, ec, e) at p
 
 -- of a refusal with its number, which reads none of them
 pub refused-sheet : (s : List ℕ) (k : ℕ) {shown n : ℕ} {old new : List ℕ} → Printed (refusedLine shown) old new n → shown ≡ k → refused k ≡ outcome s lentCells → Printed (sheet s) old new n
 unfolding sheetOf cellsAfter
-refused-sheet s k p same e = level-sheet s {a = refused k} {cells = replicate lentCells 0} e refl refl refl refl (rw same at p)
+refused-sheet s k p same e = run-sheet s {a = refused k} {cells = replicate lentCells 0} e refl refl refl refl (rw same at p)
 
 -- an accepted file's states, moments and block are printed with cells that have room for them: a block has a row for each state, and
 -- may have one for the start

@@ -21,11 +21,11 @@ fn report_file(file: &[u8], out: &mut [u8; ROOM]) -> usize
     let outcome = moments::calculate(file, &mut cells);
     match outcome {
         Outcome::Refused(rule) => sheet::write_sheet(Outcome::Refused(rule), 0, 0, 0, &cells, out),
-        Outcome::Level(level) => {
+        Outcome::Solved(run) => {
             let states = reader::state_count(file);
             let highest = reader::highest_moment(file);
             let block = reader::block_size(file);
-            sheet::write_sheet(Outcome::Level(level), states, highest, block, &cells, out)
+            sheet::write_sheet(Outcome::Solved(run), states, highest, block, &cells, out)
         }
     }
 }

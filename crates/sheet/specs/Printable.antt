@@ -2,6 +2,7 @@
 use mathlib.Core.List.{List, [], _∷_, _++_}
 use Prim.Native.Nat.{ℕ, _+_, _*_, _≤_}
 use lib.ListN.{length}
+use Rattle.definitions.specs.declared.Run.{Run}
 use Rattle.definitions.specs.Rules.{Answer, accepted, refused}
 use Rattle.definitions.specs.Sheet.{places, decimal, figure, label}
 
@@ -20,6 +21,6 @@ pub record Shape (M R block : ℕ) (cells : List ℕ) : Type 0 where
   pub filled : block ≤ length cells
 
 -- a level is printed with the figures of its cells, and a refusal asks nothing
-abbrev pub Printable : Answer ℕ → ℕ → ℕ → ℕ → List ℕ → Type 0
-Printable (accepted N) M R block cells = Shape M R block cells
+abbrev pub Printable : Answer Run → ℕ → ℕ → ℕ → List ℕ → Type 0
+Printable (accepted run) M R block cells = Shape M R block cells
 Printable (refused k) M R block cells = Unit

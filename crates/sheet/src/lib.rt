@@ -172,8 +172,8 @@ pub fn write_sheet(
     ensures { λ n. ⌜ Printed (sheetOf (answerOf outcome) states highest block (now (cells .entry))) (now (out .entry)) (now (out .exit)) n ⌝ }
 {
     match outcome {
-        Outcome::Level(n) => {
-            let lines = put_word_line(out, b"level ", n);
+        Outcome::Solved(run) => {
+            let lines = put_word_line(out, b"level ", run.level);
             put_lines(out, lines, states, highest, block, cells)
         }
         Outcome::Refused(rule) => put_word_line(out, b"refused ", rule as u64),

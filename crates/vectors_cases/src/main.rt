@@ -1,5 +1,6 @@
 // Writes the reward vectors of the two model files of the input, one with 2 states and one with 64. A line
-// has n, r, and U(n,r) at each state. cases.py makes the files, and the numbers to expect.
+// has n, r, and U(n,r) at each state; the last line of a file has the number of row means taken. cases.py makes the
+// files, and the numbers to expect.
 ghost use Prim.Native.Nat.{_≤_};
 ghost use Rattle.definitions.specs.Chain.{listed};
 ghost use Rattle.laws.specs.Acceptance.{AcceptedFile};
@@ -68,10 +69,22 @@ fn tables(
     let mut current = [zeros; 9];
     vectors::first_table(sizes, rewards, &mut current);
     table(sizes, 0, last, &current);
+    let mut taken: u64 = 0;
     for n in 1..last + 1 {
-        vectors::next_table(sizes, targets, rates, counts, rewards, n, &mut current);
+        vectors::next_table(
+            sizes,
+            targets,
+            rates,
+            counts,
+            rewards,
+            n,
+            &mut current,
+            &mut taken,
+        );
         table(sizes, n, last, &current);
     }
+    io::print_decimal(STDOUT_FILENO, taken);
+    line_end();
 }
 
 // The lines of one n, where it is at most 3 or the last.

@@ -101,9 +101,12 @@ returns c =
     let S = c .before .before .before .before .before .before .before .before .before .before in
     let same : sized (d S) .sizes-of .result .block ≡ blockSize (begin S .args .file .now) = ap (λ (z : Sizes). z .block) (sized (d S) .sizes-of .ensures) in (
       S .solve .ensures .0 ∙ levels-are (begin S .args .file .now) (times (d S)) _ _ (begin S .pre .0) _ _ _ _ _ (r S) _ _,
-      (c .before .before .put-starts .ensures
-          ∙ ap (λ (b : ℕ). started (modelOf (begin S .args .file .now)) b (length (times (d S))) (S .solve .last .1 .1 .1 .1 .1 .1 .1 .1 .1 .0)) same
-          ∙ blocks-are (begin S .args .file .now) (times (d S)) _ _ (begin S .pre .0) _ _ _ _ _ (r S) (begin S .args .cells .now) (begin S .pre .0 .block-room) _ (S .solve .ensures .1 .0) _, S .solve .ensures .1 .1 ∙ counted (begin S .args .file .now) (times (d S)) _ _ (begin S .pre .0) _ _ _ _ _ (r S)),
+      (
+        c .before .before .put-starts .ensures
+            ∙ ap (λ (b : ℕ). started (modelOf (begin S .args .file .now)) b (length (times (d S))) (S .solve .last .1 .1 .1 .1 .1 .1 .1 .1 .1 .0)) same
+            ∙ blocks-are (begin S .args .file .now) (times (d S)) _ _ (begin S .pre .0) _ _ _ _ _ (r S) (begin S .args .cells .now) (begin S .pre .0 .block-room) _ (S .solve .ensures .1 .0) _,
+        S .solve .ensures .1 .1 ∙ counted (begin S .args .file .now) (times (d S)) _ _ (begin S .pre .0) _ _ _ _ _ (r S),
+      ),
     )
 
 pub fill-with-spec : {M : Type 1} → statement M

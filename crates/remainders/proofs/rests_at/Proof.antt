@@ -1,7 +1,8 @@
 -- `remainders::rests_at` meets its contract: each division is that of the vectors. Assumes nothing.
-use Prim.Native.Nat.{ℕ, _+_, _-_, _/_, _%_}
+use Prim.Native.Nat.{ℕ, _+_, _-_, _*_, _/_, _%_, _≤_}
 use mathlib.Core.List.{List, []}
 use mathlib.Core.Path.{_≡_, refl, ap, ap₂, _∙_}
+use native.Mathlib.Nat.{mul-le-mul}
 use native.Mathlib.Omega.{arith}
 use borrow.Author.Needs.{needs}
 use lib.ListN.{getD}
@@ -26,25 +27,25 @@ use Rattle.remainders.proofs.rests_at.Tie as tie
 -- the two vectors that the divisions read, U(n−1,r) and U(n,r−1)
 module _ (d : tie.After-next-table) where
   abbrev start : tie.Start
-  start = d .before .before .before .before .before .before
+  start = d .before .before .before .before .before .before .before
 
   abbrev ch : Chain
   ch = arrays (start .args .sizes) (listed (start .args .targets .now) (start .args .rates .now) (start .args .counts .now)) (start .args .rewards .now)
 
   abbrev before : List ℕ
-  before = getD (d .before .before .table-at .last .1 .1 .1 .1 .1 .1 .0) (start .args .r) []
+  before = getD (d .before .before .before .table-at .last .1 .1 .1 .1 .1 .1 .0) (start .args .r) []
 
   abbrev same : List ℕ
   same = getD (d .next-table .last .1 .1 .1 .1 .1 .1 .0) (start .args .r - 1) []
 
   is-before : before ≡ vector ch (start .args .n - 1) (start .args .r)
   is-before =
-      ap (λ (t : List (List ℕ)). getD t (start .args .r) []) (d .before .before .table-at .ensures)
+      ap (λ (t : List (List ℕ)). getD t (start .args .r) []) (d .before .before .before .table-at .ensures)
       ∙ table-row ch (start .args .sizes .highest) (start .args .n - 1) (omega arith) (start .args .r) (omega arith)
 
   is-same : same ≡ vector ch (start .args .n) (start .args .r - 1)
   is-same =
-      ap (λ (t : List (List ℕ)). getD t (start .args .r - 1) []) (d .next-table .ensures)
+      ap (λ (t : List (List ℕ)). getD t (start .args .r - 1) []) (d .next-table .ensures .0)
       ∙ table-row ch (start .args .sizes .highest) (start .args .n) (omega arith) (start .args .r - 1) (omega arith)
 
   -- a step could be made of them
@@ -73,6 +74,12 @@ unfolding blank zeros
 table-at-requires c κs =
     let given = c .before .before .before .pre in
     (given .ready, given .highest-max, omega arith, refl)
+
+next-table-requires : tie.Need-next-table-requires
+next-table-requires c κs =
+    let given = c .before .before .before .before .before .before .pre in
+    let room : c .before .before .before .before .before .before .args .sizes .states * c .before .before .before .before .before .before .args .sizes .highest ≤ 512 = mul-le-mul {n₂ = 64} {m₂ = 8} (given .ready .rewards .states-max) (given .highest-max) in
+    ((given .ready, given .highest-max, omega arith, omega arith, omega (arith, room)), c .before .before .table-at .ensures)
 
 row-mean-requires : tie.Need-row-mean-requires
 row-mean-requires c κs =
@@ -145,7 +152,7 @@ rests-at-spec =
     (tie.spec
     (λ c. search needs)
     table-at-requires
-    (λ c κs. search needs)
+    next-table-requires
     (λ c. search needs)
     (λ c. search needs)
     row-mean-requires

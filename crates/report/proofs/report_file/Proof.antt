@@ -1,4 +1,4 @@
--- The outcome's sheet is written, for a refusal with no states and for a level with the file's.
+-- The outcome's sheet is written, for a refusal with no states and for a run with the file's.
 use mathlib.Core.Path.{sym, _∙_, ap, subst}
 use native.Mathlib.Omega.{arith}
 use denote.Ref.{now}
@@ -6,16 +6,16 @@ use borrow.Author.Needs.{needs}
 use Rattle.definitions.specs.Moment.{answerOf}
 use Rattle.definitions.specs.Sheet.{sheetOf, lentCells}
 use Rattle.laws.specs.Acceptance.{AcceptedFile, accepted-file}
-use Rattle.laws.specs.MomentLaws.{level-accepted}
-use Rattle.report.specs.ReportLaws.{level-sheet, refused-sheet, accepted-shape}
+use Rattle.laws.specs.MomentLaws.{run-judged}
+use Rattle.report.specs.ReportLaws.{run-sheet, refused-sheet, accepted-shape}
 use Rattle.report.proofs.report_file.Statement.{statement}
 use Rattle.report.proofs.report_file.Tie as tie
 
--- a level is answered of an accepted file
+-- a run is answered of an accepted file
 known : (c : tie.After-known-told2) → AcceptedFile (now (c .before .before .before .before .before .before .before .args .file)) lentCells
 known c =
     let s = now (c .before .before .before .before .before .before .before .args .file) in
-    accepted-file s lentCells (level-accepted s lentCells (c .before .outcome2 .given .0 .0) (sym (c .before .before .before .before .calculate .ensures .0) ∙ ap answerOf (c .before .outcome2 .given .1)))
+    accepted-file s lentCells (run-judged s lentCells (c .before .outcome2 .given .0 .0) (sym (c .before .before .before .before .calculate .ensures .0) ∙ ap answerOf (c .before .outcome2 .given .1)))
 
 pub report-file-spec : {M : Type 1} → statement M
 unfolding sheetOf
@@ -47,5 +47,5 @@ report-file-spec =
     let size = c .before .before .before in
     let call = size .before .before .before .before .before .before .before in
     let s = now (call .before .before .before .args .file) in
-    let level = size .before .before .before .before .outcome2 .given .1 in
-    level-sheet s (sym (ap answerOf level) ∙ call .calculate .ensures .0) (size .before .before .state-count .ensures) (size .before .highest-moment .ensures) (size .block-size .ensures) (rw level at (call .calculate .ensures .1 .0)) (c .write-sheet2 .ensures)))
+    let run = size .before .before .before .before .outcome2 .given .1 in
+    run-sheet s (sym (ap answerOf run) ∙ call .calculate .ensures .0) (size .before .before .state-count .ensures) (size .before .highest-moment .ensures) (size .block-size .ensures) (rw run at (call .calculate .ensures .1 .0)) (c .write-sheet2 .ensures)))
