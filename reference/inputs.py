@@ -792,7 +792,7 @@ def mixed(call, seed, count):
 
 def mixed_with_large(call, large, long, seed, count):
     """Of every 150 inputs one has 64 states, and one a long run."""
-    others = {50: ("long-run", long), 100: ("64-states", large)}
+    others = {51: ("long-run", long), 100: ("64-states", large)}
     for index, each in enumerate(mixed(call, seed, count)):
         if index % 150 in others:
             name, make = others[index % 150]
