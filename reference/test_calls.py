@@ -218,20 +218,21 @@ class Inputs(unittest.TestCase):
 
 class RowMeansInputs(unittest.TestCase):
 
-    def accepted(self, call):
-        """The accepted inputs among some of a call, each with its number of row means."""
-        for given in given_all(1, 400, call):
-            answer, written = inputs.outcome(calculator, call, given)
-            if answer < calculator.REFUSED:
-                yield given, written["row_means"][0]
+    @classmethod
+    def setUpClass(cls):
+        """For each call some accepted inputs, with what is written."""
+        cls.accepted = {}
+        for call in ("calculate", "series"):
+            results = ((given, *inputs.outcome(calculator, call, given)) for given in given_all(1, 400, call))
+            cls.accepted[call] = [(given, written) for given, answer, written in results if answer < calculator.REFUSED]
 
     def test_numbers(self):
         """Numbers past 8 and 16 bits; 1 state and 64; one moment; version 2; states without an arrow; weights of 0."""
-        for call in ("calculate", "series"):
+        for call, accepted in self.accepted.items():
             found = Counter()
-            for given, row_means in self.accepted(call):
-                model = calculator.read_model(given["file"])
-                T = given.get("times", [model.T])[-1]
+            for given, written in accepted:
+                model, row_means = calculator.read_model(given["file"]), written["row_means"][0]
+                X = model.E * given.get("times", [model.T])[-1]
                 found["past 8 bits"] += row_means >= 2**8
                 found["past 16 bits"] += row_means >= 2**16
                 found["1 state"] += model.M == 1
@@ -239,16 +240,16 @@ class RowMeansInputs(unittest.TestCase):
                 found["1 moment"] += model.R == 1
                 found["version 2"] += bool(model.a)
                 found["no arrow"] += any(row[i] == model.E for i, row in enumerate(model.c))
-                found["no weight"] += 0 in calculator.weights(model.E * T, model.E * T // 10**6)[1:]
+                found["no weight"] += 0 in calculator.weights(X, X // 10**6)[1:]
             self.assertEqual(len(found), 8)
             self.assertTrue(all(found.values()), (call, found))
 
     def test_levels_of_lists(self):
         """Lists whose first level is below the largest, and lists of one time; no list falls."""
         rising = alone = 0
-        for given, row_means in self.accepted("series"):
-            levels = inputs.outcome(calculator, "series", given)[1]["levels"][:len(given["times"])]
-            self.assertEqual(row_means, levels[-1] * given["file"][3] * given["file"][4])
+        for given, written in self.accepted["series"]:
+            levels, file = written["levels"][:len(given["times"])], given["file"]
+            self.assertEqual(written["row_means"], [levels[-1] * file[3] * file[4]])
             rising += levels[0] < levels[-1]
             alone += len(levels) == 1
         self.assertGreater(min(rising, alone), 10)
