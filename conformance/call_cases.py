@@ -54,13 +54,13 @@ def own_time(file, T):
 
 def series(name, file, times, levels=None, cells=None):
     """A call of series; where a count is not given, just what the list and the file need."""
-    size = inputs.need(file)
-    return Input(name, "series", dict(file=file, times=list(times), levels=len(times) if levels is None else levels,
-                                      cells=len(times) * size if cells is None else cells))
+    return Input(name, "series", inputs.listing(file, list(times), len(times) if levels is None else levels,
+                                                len(times) * inputs.need(file) if cells is None else cells))
 
 
-def calculate(name, file, cells):
-    return Input(name, "calculate", dict(file=file, cells=cells))
+def calculate(name, file, cells=None):
+    """A call of calculate; where no count is given, just what the file needs."""
+    return Input(name, "calculate", inputs.calculating(file, inputs.need(file) if cells is None else cells))
 
 
 def remainders(name, file, state, n, r):
@@ -523,9 +523,53 @@ def series_start_row_13():
     yield series("refused-13-start-256-cells-none", wide, EIGHT, 8, 0)
 
 
+# --- Row means -------------------------------------------------------------------------------------------
+
+# Numbers of row means, and the states, moments, E and time of a file that takes so many with the tolerance 1,000; the
+# levels are 17, 16 and 256.
+ROW_MEANS = {255: (5, 3, 4_200_000, 1), 256: (4, 4, 3_700_000, 1), 65_536: (32, 8, 5_850_000, 32)}
+
+
+def row_mean_files():
+    """Files by the number of row means that a run takes."""
+    for count, (M, R, E, T) in ROW_MEANS.items():
+        rng = random.Random(f"row means {count}")
+        yield count, models.build(**models.fields_for(rng, M, E, T, R=R, eps=1_000, fill=0.2))
+
+
+def calculate_row_means():
+    """Numbers of row means: by hand, over the range of models, next to 2^8 and 2^16, and the largest."""
+    yield calculate("hand-A", A)
+    yield calculate("hand-B", B)
+    for T in (2, 256):
+        yield calculate(f"row-means-B-time-{T}", own_time(B, T))
+        yield calculate(f"row-means-start-B-time-{T}", own_time(B_START, T))
+    for word, file in (("1-state", one_state()), ("no-rates", no_rates()), ("absorbing", absorbing()),
+                       ("leaving", leaving()), ("longest", longest()), ("64-states", states_64())):
+        yield calculate(f"row-means-{word}", file)
+    yield calculate("row-means-start-longest", spread(longest()))
+    for count, file in row_mean_files():
+        yield calculate(f"row-means-{count}", file)
+    yield calculate("row-means-start-past-16-bits", spread(dict(row_mean_files())[65_536]))
+    yield calculate("row-means-heaviest", models.build(**models.heaviest(random.Random(1))))
+
+
+def series_row_means():
+    """The same for lists, by the largest level."""
+    for word, file, times in (("1-state", one_state(), [1, 3_000_000]), ("no-rates", no_rates(), [1_000, 3_000_000]),
+                              ("absorbing", absorbing(), [2, 20, 21]), ("longest", longest(), [1, 31, 32]),
+                              ("longest-alone", longest(), [32]), ("start-longest", spread(longest()), [8, 32])):
+        yield series(f"row-means-{word}", file, times)
+    for count, file in row_mean_files():
+        T = ROW_MEANS[count][-1]
+        yield series(f"row-means-{count}", file, [T])
+        if T > 1:
+            yield series(f"row-means-{count}-three-times", file, [1, T // 2, T])
+
+
 SERIES = (series_values, series_rows, series_row_8, series_row_14, series_row_15, series_row_12, series_own_time,
           series_row_13, series_levels, series_last_division, series_kinds, series_start, series_start_rows,
-          series_start_row_13)
+          series_start_row_13, series_row_means)
 
 
 # --- Calculate: row 13 -------------------------------------------------------------------------------------
@@ -563,7 +607,7 @@ def calculate_start():
     for word, file in (("hand-A-start", A_MOVED), ("hand-B-start", B_START), ("hand-B-start-on-1", B_MOVED),
                        ("hand-B-start-on-2", weighted(B, [0, 1_000_000])), *start_files(), *lefts(),
                        ("start-9-states", spread(states(9, 8)))):
-        yield calculate(word, file, inputs.need(file))
+        yield calculate(word, file)
 
 
 def calculate_start_rows():
@@ -601,7 +645,8 @@ def calculate_start_row_13():
         yield calculate(f"refused-13-start-64-states-{cells}-cells", largest, cells)
 
 
-CALCULATE = (calculate_row_13, calculate_before_13, calculate_start, calculate_start_rows, calculate_start_row_13)
+CALCULATE = (calculate_row_13, calculate_before_13, calculate_start, calculate_start_rows, calculate_start_row_13,
+             calculate_row_means)
 
 
 # --- Remainders: models -----------------------------------------------------------------------------------

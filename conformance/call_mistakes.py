@@ -1,12 +1,13 @@
-"""The tables of wrong calls for call_mutants.py: each the reference's series or calculate with one thing changed, those
-of remainders from remainders_mistakes.py, those of the converter from move_mistakes.py and those of practice from
-practice_mistakes.py.
+"""The tables of wrong calls for call_mutants.py: each the reference's series or calculate with one thing changed, wrong
+counts of row means from count_mistakes.py, those of remainders from remainders_mistakes.py, those of the converter from
+move_mistakes.py and those of practice from practice_mistakes.py.
 
 As in mistakes.py, an entry names the mistake, says it in a line and gives its changes in the text of
 reference/calculator.py. TABLE holds the mistakes by call, LEFT_OUT the changes that no call can show, each with the
 reason; EQUIVALENT are those of series.
 """
 
+import count_mistakes
 import mistakes
 import move_mistakes
 import practice_mistakes
@@ -43,7 +44,8 @@ FREE = {
 SERIES_ROW = "    row = series_refusal(file, times, len(levels), len(cells))\n"
 REFUSED = SERIES_ROW + "    if row:\n"
 FOUND = "found = [level(model.E * T, model.epsilon) for T in times]"
-VECTORS = "U = reward_vectors(model, max(found))"
+VECTORS = "U = reward_vectors(model, max(found), taken)"
+COUNTED = VECTORS.replace("U = ", "")      # for the count alone
 PAIRS = "enumerate(zip(times, found))"
 WEIGHTS = "w = weights(model.E * T, N)"
 MOMENT = "moment(w, U, N, i, r)"
@@ -54,7 +56,7 @@ PUT_BLOCK = "cells[k * size:(k + 1) * size] = block"
 ANSWER = 'return ("times", len(times))'
 CALCULATE_ROW = "    result = outcome(file, len(cells))\n"
 PUT_STARTS = mistakes.PUT_STARTS
-CALCULATE_END = f"{PUT_STARTS}    return result\n"
+CALCULATE_END = f"{PUT_STARTS}{count_mistakes.GIVE}    return result\n"
 
 
 # --- Helpers for the new texts -----------------------------------------------------------------------
@@ -100,8 +102,8 @@ def half_down(a, b):
     return -((b - 2 * a) // (2 * b))
 
 
-HELPERS = (*mistakes.HELPERS, *remainders_mistakes.HELPERS, *move_mistakes.HELPERS, *practice_mistakes.HELPERS,
-           last_product, block_of, with_time_1, swapped_bytes, fill, lay, half_down)
+HELPERS = (*mistakes.HELPERS, *count_mistakes.HELPERS, *remainders_mistakes.HELPERS, *move_mistakes.HELPERS,
+           *practice_mistakes.HELPERS, last_product, block_of, with_time_1, swapped_bytes, fill, lay, half_down)
 
 
 # --- Series: the refusal table -------------------------------------------------------------------------
@@ -440,14 +442,14 @@ BLOCK_STARTS = [
 
 REUSED_VECTORS = [
     wrong("vectors-to-the-first-level", "the vectors worked out as far as the first level, the last of them repeated",
-          (VECTORS, "U = reward_vectors(model, found[0])\n    U += [U[-1]] * (max(found) - found[0])")),
+          (VECTORS, f"{COUNTED}\n    U = reward_vectors(model, found[0])\n    U += [U[-1]] * (max(found) - found[0])")),
     wrong("vectors-one-short", "the vectors worked out to one less than the largest level, the last of them repeated",
-          (VECTORS, "U = reward_vectors(model, max(found) - 1)\n    U.append(U[-1])")),
+          (VECTORS, f"{COUNTED}\n    U = reward_vectors(model, max(found) - 1)\n    U.append(U[-1])")),
     wrong("vectors-carried-on", "the vectors of each time taken up where those of the time before end",
-          (VECTORS, "vectors = reward_vectors(model, sum(found))"),
+          (VECTORS, f"{COUNTED}\n    vectors = reward_vectors(model, sum(found))"),
           (WEIGHTS, f"{WEIGHTS}\n        U = vectors[sum(found[:k]):]")),
     wrong("vectors-from-the-level-before", "the vectors of each time begun at the level of the time before",
-          (VECTORS, "vectors = reward_vectors(model, 2 * max(found))"),
+          (VECTORS, f"{COUNTED}\n    vectors = reward_vectors(model, 2 * max(found))"),
           (WEIGHTS, f"{WEIGHTS}\n        U = vectors[found[k - 1] if k else 0:]")),
 ]
 
@@ -593,11 +595,11 @@ EQUIVALENT = (
            "not times or times[MOST_TIMES:]"),
     wrong("vectors-to-the-last-level", "the vectors as far as the last level: no time is known at which the level "
           "falls; where t meets its bound at n, t less its bound rises by 12 or more from X to X + 1",
-          (VECTORS, "U = reward_vectors(model, found[-1])")),
-    wrong("vectors-for-each-time", "the vectors worked out anew for each time: they do not depend on it",
-          (WEIGHTS, f"{WEIGHTS}\n        U = reward_vectors(model, N)")),
-    wrong("vectors-past-the-level", "the vectors nine steps past the largest level, where they are not used",
-          (VECTORS, "U = reward_vectors(model, max(found) + 9)")),
+          (VECTORS, VECTORS.replace("max(found)", "found[-1]"))),
+    wrong("vectors-for-each-time", "the vectors worked out anew for each time, and not counted again: they do not "
+          "depend on it", (WEIGHTS, f"{WEIGHTS}\n        U = reward_vectors(model, N)")),
+    wrong("vectors-past-the-level", "the vectors nine steps past the largest level, where they are not used, and not "
+          "counted", (VECTORS, f"{COUNTED}\n    U = reward_vectors(model, max(found) + 9)")),
     wrong("weights-past-the-level", "weights past the level, which are not used",
           (WEIGHTS, "w = weights(model.E * T, LEVEL_LIMIT)")),
     wrong("blocks-last-first", "the last block written first", (PAIRS, f"reversed(list({PAIRS}))")),
@@ -614,17 +616,17 @@ def by_name(entries):
 
 
 TABLE = {
-    "calculate": by_name(CALCULATE),
+    "calculate": by_name((*CALCULATE, *count_mistakes.CALCULATE)),
     "practice": by_name(practice_mistakes.TABLE),
     "remainders": by_name(remainders_mistakes.TABLE),
-    "series": by_name(SERIES),
+    "series": by_name((*SERIES, *count_mistakes.SERIES)),
     "to_version_1": by_name(move_mistakes.TO_VERSION_1),
     "to_version_2": by_name(move_mistakes.TO_VERSION_2),
 }
 LEFT_OUT = {
     "practice": practice_mistakes.EQUIVALENT,
     "remainders": remainders_mistakes.EQUIVALENT,
-    "series": EQUIVALENT,
+    "series": (*EQUIVALENT, *count_mistakes.EQUIVALENT),
     "to_version_1": move_mistakes.EQUIVALENT_1,
     "to_version_2": move_mistakes.EQUIVALENT_2,
 }

@@ -37,8 +37,9 @@ CHAIN_ROWS = f"[{ROW_E} for i, row in enumerate(rates)]"
 DIAGONAL = "E - sum(row)"
 FIRST = "f * u // model.F for f, u in zip(model.f, vectors[-1])"
 MEAN = "sum(map(mul, row, vector)) // model.E"
-ROW_MEANS = MEAN + " for row in model.c"
-MEANS = "V = row_means(model, before[r])"
+EACH_ROW = "    for row in model.c:\n"
+MEANS = "V = means(model, before[r], taken)"
+STEP = "next_vectors(model, len(U), U[-1], taken)"
 W = "f * u // model.F for f, u in zip(model.f, vectors[r - 1])"
 MIX = "(n * v + r * w) // (n + r)"
 MIXED = f"[{MIX} for v, w in zip(V, W)]"
@@ -721,7 +722,7 @@ CHAIN = [
     wrong("diagonal-negative", "c(i,i) is less the row's sum", (ROW_E, "row[:i] + [-sum(row)] + row[i:]")),
     wrong("diagonal-last", "c(i,i) put at the end of its row", (ROW_E, "row + [E - sum(row)]")),
     wrong("chain-transposed", "c(j,i) in place of c(i,j)",
-          (ROW_MEANS, ROW_MEANS.replace("model.c", "zip(*model.c)"))),
+          (EACH_ROW, EACH_ROW.replace("model.c", "zip(*model.c)"))),
     wrong("F-first-state", "F is the first state's reward", ("f, max(f), c", "f, f[0], c")),
     wrong("F-last-state", "F is the last state's reward", ("f, max(f), c", "f, f[-1], c")),
     wrong("F-sum", "F is the sum of the rewards", ("f, max(f), c", "f, sum(f), c")),
@@ -769,7 +770,7 @@ VECTORS = [
     wrong("mix-half", "U(n,r) as the plain mean of V and W", (MIX, "(v + w) // 2")),
     wrong("mix-r-1", "U(n,r) with r = 1 for every r", (MIX, "(n * v + w) // (n + 1)")),
     wrong("vectors-stationary", "vectors kept once no number moves by more than 10^-9",
-          ("next_vectors(model, len(U), U[-1])", "unless_still(U[-1], next_vectors(model, len(U), U[-1]))")),
+          (STEP, f"unless_still(U[-1], {STEP})")),
     wrong("mix-misprinted-binomial", "U(n,r) by binomials, a lower index one off",
           (MIX, "(comb(n + r - 1, r) * v + comb(n + r - 1, r) * w) // comb(n + r, r)")),
 ]
@@ -986,8 +987,9 @@ ARROWS = [
         ("to-first-0", "an arrow behind the first rate of 0 left out", "L[:row[::-1].index(0)] if 0 in row else L"))),
     wrong("rates-1-as-0", "a rate of 1 read as 0", (RATES, f"[[a if a > 1 else 0 for a in row] for row in {RATES}]")),
     wrong("row-mean-own-sum", "V over the row's own sum, without the diagonal",
-          (ROW_MEANS, "(sum(map(mul, row, vector)) - row[i] * vector[i]) // (model.E - row[i]) if row[i] < model.E "
-                      "else vector[i] for i, row in enumerate(model.c)")),
+          (EACH_ROW, "    for i, row in enumerate(model.c):\n"),
+          (MEAN, "(sum(map(mul, row, vector)) - row[i] * vector[i]) // (model.E - row[i]) if row[i] < model.E "
+                 "else vector[i]")),
     wrong("row-mean-one-carry", "V from quotients and remainders, at most one E taken out of these",
           (MEAN, "(sum(a * b // model.E for a, b in zip(row, vector)) + "
                  "(sum(a * b % model.E for a, b in zip(row, vector)) >= model.E))")),

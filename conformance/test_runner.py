@@ -18,6 +18,7 @@ sys.path.insert(0, HERE)
 import run  # noqa: E402
 import runner  # noqa: E402
 import run_calls  # noqa: E402
+import calculator  # noqa: E402
 import call_cases  # noqa: E402
 import cases  # noqa: E402
 import inputs  # noqa: E402
@@ -262,6 +263,27 @@ class StoredCalls(unittest.TestCase):
             self.assertRegex(run.stored(name + ".sheet"), rb"\Alevel \d+\n1 1 [01]\.\d{12}\n", name)
         for word, wanted in (("states", {1, 64}), ("highest", {1, 8}), ("seed", {0, 1, 2**31, 2**32 - 1})):
             self.assertLessEqual(wanted, {dealt[name].given[word] for name in names})
+
+    def test_row_means(self):
+        """The number of row means is N M R, with N the largest level; a refused call gives none. Levels do not fall,
+        and none is above 2 m + 51."""
+        numbers = {"calculate": [], "series": []}
+        for each in run_calls.stored():
+            if each.call not in numbers:
+                continue
+            if each.answer >= 1_000_000:
+                self.assertNotIn("row_means", each.written, each.name)
+                continue
+            model = calculator.read_model(each.given["file"])
+            levels = each.written.get("levels", [each.answer])
+            self.assertEqual(each.written["row_means"], [max(levels) * model.M * model.R], each.name)
+            self.assertEqual(levels, sorted(levels), each.name)
+            for T, N in zip(each.given.get("times", [model.T]), levels):
+                self.assertLessEqual(N, 2 * (model.E * T // 10**6) + 51, each.name)
+            numbers[each.call] += each.written["row_means"]
+        for call, given in numbers.items():
+            self.assertLessEqual({1, 12, 16, 255, 256, 65_536}, set(given), call)
+        self.assertEqual(max(numbers["calculate"]), 358 * 64 * 8)
 
     def test_versions(self):
         """Of each call that reads either version, files of both are accepted; of the converter those of one."""

@@ -91,7 +91,7 @@ def rests(linked, file, n, r, state):
 def judged(linked, file):
     """What kuldrepso_calculate answers of a file, its level or a refusal, and the cells. kuldrepso_remainders has to
     answer the same refusal, or none behind the level."""
-    answer, written = called(linked, "calculate", dict(file=file, cells=calculator.LENT_CELLS))
+    answer, written = called(linked, "calculate", inputs.calculating(file, calculator.LENT_CELLS))
     n, right = (1, answer) if answer >= REFUSED else (answer + 1, NONE)
     got, _ = remainders(linked, file, n, 1, 1)
     if got != right:

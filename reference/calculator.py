@@ -1,7 +1,7 @@
 #!/usr/bin/env python3
 """Reference calculator: moments of the accumulated reward of a repairable system.
 
-Written from document 01 and requests S-1 and S-3 to S-6 of document 02 alone, in plain whole
+Written from document 01 and requests S-1, S-3 to S-6 and S-8 of document 02 alone, in plain whole
 numbers, with the papers' letters. S-1 decides the last division; every other rounding is down.
 Reads a model file from standard input and prints its sheet:
 
@@ -148,28 +148,32 @@ def first_vectors(model):
     return vectors
 
 
-def row_means(model, vector):
-    """V at every state: the sum over j of c(i,j) * U(n-1,r) at j, over E, down."""
-    return [sum(map(mul, row, vector)) // model.E for row in model.c]
+def means(model, vector, taken):
+    """V, the row mean, at every state: the sum over j of c(i,j) * U(n-1,r) at j, over E, down. Each adds one to the
+    number taken, a list of one."""
+    V = []
+    for row in model.c:
+        V.append(sum(map(mul, row, vector)) // model.E)
+        taken[0] += 1
+    return V
 
 
-def next_vectors(model, n, before):
+def next_vectors(model, n, before, taken):
     """[U(n,0), ..., U(n,R)] for n >= 1, from before = [U(n-1,0), ..., U(n-1,R)]."""
     vectors = [[ONE] * model.M]
     for r in range(1, model.R + 1):
-        V = row_means(model, before[r])
+        V = means(model, before[r], taken)
         W = [f * u // model.F for f, u in zip(model.f, vectors[r - 1])]
         vectors.append([(n * v + r * w) // (n + r) for v, w in zip(V, W)])
     return vectors
 
 
-def reward_vectors(model, last, memo=None):
-    """The list U with U[n][r][i] for n = 0 to last; a memo kept by the caller is lengthened."""
-    U = [] if memo is None else memo
-    if not U:
-        U.append(first_vectors(model))
+def reward_vectors(model, last, taken=None):
+    """The list U with U[n][r][i] for n = 0 to last; the row means that it takes are counted in `taken`, where given."""
+    taken = taken or [0]
+    U = [first_vectors(model)]
     while len(U) <= last:
-        U.append(next_vectors(model, len(U), U[-1]))
+        U.append(next_vectors(model, len(U), U[-1], taken))
     return U
 
 
@@ -235,20 +239,28 @@ def outcome(file, cells):
     return ("level", level(model.X, model.epsilon))
 
 
-def calculate(file, cells):
-    """The outcome of a file; where it is accepted, cells 0 to M * R - 1 take the moments, and in version 2 the R cells
-    after them the start figures."""
+def give(row_means, taken):
+    """The number of row means taken goes to where it is lent, a list of one, or nowhere (S-8)."""
+    if row_means:
+        row_means[0] = taken[0]
+
+
+def calculate(file, cells, row_means=None):
+    """The outcome of a file; where it is accepted, cells 0 to M * R - 1 take the moments, in version 2 the R cells
+    after them the start figures, and row_means the number of row means that the run took."""
     result = outcome(file, len(cells))
     if result[0] == "refused":
         return result
     N = result[1]
     model = read_model(file)
     w = weights(model.X, N)
-    U = reward_vectors(model, N)
+    taken = [0]
+    U = reward_vectors(model, N, taken)
     for i in range(1, model.M + 1):
         for r in range(1, model.R + 1):
             cells[(i - 1) * model.R + (r - 1)] = moment(w, U, N, i - 1, r)
     cells[model.M * model.R:block_size(file)] = start_figures(model, cells)
+    give(row_means, taken)
     return result
 
 
@@ -276,15 +288,16 @@ def series_refusal(file, times, levels, cells):
     return 0
 
 
-def series(file, times, levels, cells):
+def series(file, times, levels, cells, row_means=None):
     """("refused", k), or ("times", how many): then each time has its level, and its block takes the moments, in version
-    2 the start figures after them, in list order."""
+    2 the start figures after them, in list order, and row_means the number of row means that the run took."""
     row = series_refusal(file, times, len(levels), len(cells))
     if row:
         return ("refused", row)
     model = read_model(file)
     found = [level(model.E * T, model.epsilon) for T in times]
-    U = reward_vectors(model, max(found))      # no vector depends on the time
+    taken = [0]
+    U = reward_vectors(model, max(found), taken)      # no vector depends on the time
     size = block_size(file)
     for k, (T, N) in enumerate(zip(times, found)):
         w = weights(model.E * T, N)
@@ -292,6 +305,7 @@ def series(file, times, levels, cells):
         block += start_figures(model, block)
         levels[k] = N
         cells[k * size:(k + 1) * size] = block
+    give(row_means, taken)
     return ("times", len(times))
 
 

@@ -215,6 +215,11 @@ def list_of_times(rng, most, rows):
 
 # --- Inputs of series ---------------------------------------------------------------------------------
 
+def listing(file, times, levels, cells):
+    """The input of a file with a list of times, and counts of level and block cells."""
+    return dict(file=file, times=times, levels=levels, cells=cells, row_means=1)
+
+
 def another_time(rng, file):
     """For the file's own time, which 8 alone judges: it itself, late ones, and 1."""
     return rng.choice([own_time(file), MAX_WORD, longest_time(file) + 1, 1])
@@ -225,8 +230,8 @@ def edge_series(rng):
     fields = rng.choice([models.rounding_edge, models.rounding_edge, models.level_edge])(rng)
     file = models.build(**models.in_either_version(rng, fields))
     times = sorted({own_time(file), *rising(rng, longest_time(file), rng.randint(1, 7))})
-    return dict(file=with_time(file, another_time(rng, file)), times=times, levels=at_least(rng, len(times)),
-                cells=at_least(rng, len(times) * need(file)))
+    return listing(with_time(file, another_time(rng, file)), times, at_least(rng, len(times)),
+                   at_least(rng, len(times) * need(file)))
 
 
 def aimed_series(rng, row, next_too=False):
@@ -241,8 +246,7 @@ def aimed_series(rng, row, next_too=False):
         file = with_time(file, another_time(rng, file))
     times = list_of_times(rng, longest_time(file), in_list)
     short = rng.choice([(True, False), (False, True), (True, True)]) if 13 in rows else (False, False)
-    return dict(file=file, times=times, levels=room(rng, len(times), short[0]),
-                cells=room(rng, len(times) * need(file), short[1]))
+    return listing(file, times, room(rng, len(times), short[0]), room(rng, len(times) * need(file), short[1]))
 
 
 def any_series(rng):
@@ -253,44 +257,61 @@ def any_series(rng):
     broken = {row for row, share in ((8, 0.05), (14, 0.1), (15, 0.1), (12, 0.1)) if rng.random() < share}
     times = list_of_times(rng, longest_time(file), broken)
     levels, cells = (room(rng, each, rng.random() < 0.1) for each in (len(times), len(times) * need(file)))
-    return dict(file=file, times=times, levels=levels, cells=cells)
+    return listing(file, times, levels, cells)
 
 
 def series_of(rng, file):
     """A file with a list that is accepted, and cells just enough."""
     times = list_of_times(rng, longest_time(file), set())
-    return dict(file=file, times=times, levels=len(times), cells=len(times) * need(file))
+    return listing(file, times, len(times), len(times) * need(file))
 
 
 def large_series(rng):
     """64 states, which take all cells where R is 8, the list has 8 times and the file is of version 2."""
     file = models.build(**models.in_either_version(rng, models.states_64(rng)))
     times = rising(rng, 4_000, rng.choice([1, 8]))
-    return dict(file=file, times=times, levels=len(times), cells=len(times) * need(file))
+    return listing(file, times, len(times), len(times) * need(file))
+
+
+def long_series(rng):
+    """Row means past 2^16, by the last time."""
+    file = models.build(**models.in_either_version(rng, models.long_run(rng)))
+    times = sorted({*rng.sample(range(1, 20), rng.randint(0, 3)), own_time(file)})
+    return listing(file, times, len(times), len(times) * need(file))
 
 
 # --- Inputs of calculate ------------------------------------------------------------------------------
+
+def calculating(file, cells):
+    """The input of a file with a count of cells."""
+    return dict(file=file, cells=cells, row_means=1)
+
 
 def aimed_calculate(rng, row, next_too=False):
     """An input that breaks this row and some that come after it; row 0: none."""
     rows = and_later(rng, "calculate", row, next_too)
     file = broken_file(rng, "calculate", rows)
-    return dict(file=file, cells=room(rng, need(file), 13 in rows))
+    return calculating(file, room(rng, need(file), 13 in rows))
 
 
 def any_calculate(rng):
     file = any_file(rng)
-    return dict(file=file, cells=room(rng, need(file), rng.random() < 0.3))
+    return calculating(file, room(rng, need(file), rng.random() < 0.3))
 
 
 def calculate_of(rng, file):
     """A file with cells just enough."""
-    return dict(file=file, cells=need(file))
+    return calculating(file, need(file))
 
 
 def large_calculate(rng):
     """64 states, which take all cells where R is 8 and the file is of version 2."""
     return calculate_of(rng, models.build(**models.in_either_version(rng, models.states_64(rng))))
+
+
+def long_calculate(rng):
+    """Row means past 2^16."""
+    return calculate_of(rng, models.build(**models.in_either_version(rng, models.long_run(rng))))
 
 
 # --- Inputs of to_version_2 and to_version_1 ----------------------------------------------------------
@@ -769,21 +790,22 @@ def mixed(call, seed, count):
         yield Input(f"{index:05d}-{name}", call, given)
 
 
-def mixed_with_large(call, large, seed, count):
-    """Every 150th input has 64 states."""
+def mixed_with_large(call, large, long, seed, count):
+    """Of every 150 inputs one has 64 states, and one a long run."""
+    others = {51: ("long-run", long), 100: ("64-states", large)}
     for index, each in enumerate(mixed(call, seed, count)):
-        if index % 150 == 100:
-            rng = random.Random(f"large {seed} {index}")
-            each = Input(f"{index:05d}-64-states", call, large(rng))
+        if index % 150 in others:
+            name, make = others[index % 150]
+            each = Input(f"{index:05d}-{name}", call, make(random.Random(f"large {seed} {index}")))
         yield each
 
 
 def calculate_inputs(seed, count):
-    return mixed_with_large("calculate", large_calculate, seed, count)
+    return mixed_with_large("calculate", large_calculate, long_calculate, seed, count)
 
 
 def series_inputs(seed, count):
-    return mixed_with_large("series", large_series, seed, count)
+    return mixed_with_large("series", large_series, long_series, seed, count)
 
 
 def remainders_inputs(seed, count):

@@ -41,8 +41,8 @@ def parameters(text):
 # The calls of include/kuldrepso.h without the kuldrepso_ of their names, their parameters in order. A slice is a
 # pointer and a count there, a number that is written a pointer alone. Each answers a u64.
 CALLS = {
-    "calculate": parameters("file:u8[] cells:u64[]*"),
-    "series": parameters("file:u8[] times:u32[] levels:u64[]* cells:u64[]*"),
+    "calculate": parameters("file:u8[] cells:u64[]* row_means:u64*"),
+    "series": parameters("file:u8[] times:u32[] levels:u64[]* cells:u64[]* row_means:u64*"),
     "remainders": parameters("file:u8[] state:u64 n:u64 r:u64 mean:u64* share:u64* mix:u64*"),
     "to_version_2": parameters("file:u8[] out:u8[]*"),
     "to_version_1": parameters("file:u8[] out:u8[]*"),

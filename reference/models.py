@@ -426,6 +426,12 @@ def heaviest(rng):
     return fields_for(rng, 64, MAX_X // T, T, R=8, eps=1, fill=1.0)
 
 
+def long_run(rng):
+    """The largest level, 358, with enough states for more than 2^16 row means."""
+    T = rng.choice([32, 64, 256])
+    return fields_for(rng, rng.randint(24, 28), MAX_X // T, T, R=8, eps=1)
+
+
 # conformance/make.py stores models of these kinds: one more here is two more files in the kit.
 SMALL_KINDS = [
     one_state, tiny, small, absorbing_states, all_rates_zero, q_below_1, q_whole_or_next, q_256,

@@ -26,10 +26,11 @@ import call_cases  # noqa: E402
 import call_mistakes  # noqa: E402
 import call_mutants  # noqa: E402
 import cases  # noqa: E402
+import count_mistakes  # noqa: E402
 import mutants  # noqa: E402
 import practice_mistakes  # noqa: E402
 import run_calls  # noqa: E402
-from inputs import MOST, NUMBERS, asked, limits  # noqa: E402
+from inputs import MOST, NUMBERS, asked, calculating, limits, listing  # noqa: E402
 from library import GUARD, PAINT, PAINT_BYTE  # noqa: E402
 from mistakes import wrong  # noqa: E402
 
@@ -41,7 +42,8 @@ RUN_CALLS = os.path.join("..", "conformance", "run_calls.py")
 WRONG_LIBRARY = r"""
 #include <stdint.h>
 #include <stddef.h>
-uint64_t kuldrepso_calculate(uint8_t *file, size_t file_length, uint64_t *cells, size_t cell_count) {
+uint64_t kuldrepso_calculate(uint8_t *file, size_t file_length, uint64_t *cells, size_t cell_count,
+                             uint64_t *row_means) {
     switch (file[0]) {
     case 1: cells[cell_count] = 7; break;
     case 2: cells[-1] = 7; break;
@@ -50,6 +52,9 @@ uint64_t kuldrepso_calculate(uint8_t *file, size_t file_length, uint64_t *cells,
     case 5: file[-1] = 7; break;
     case 6: cells[cell_count + 8] = 7; break;
     case 7: *(volatile int *)8 = 7; break;
+    case 8: row_means[1] = 7; break;
+    case 9: row_means[-1] = 7; break;
+    case 10: row_means[0] = 7; break;
     }
     if (cell_count > 0) cells[0] = 10 * file_length + cell_count;
     return UINT64_C(0xFFFFFFFFFFFFFFFF) - file[0];
@@ -134,7 +139,8 @@ class Inputs(unittest.TestCase):
                 found, aim = reached(call, given), name[6:]
                 if "row-" in aim:
                     self.assertEqual(found[0], int(aim[-2:]), name)
-                elif aim in ("accepted", "64-states") or (call == "remainders" and aim in inputs.ENDS[call]):
+                elif aim in ("accepted", "64-states", "long-run") or (
+                        call == "remainders" and aim in inputs.ENDS[call]):
                     self.assertEqual(found[0], 0, name)
                 if aim.startswith("file-"):
                     self.assertIn(aim[5:], inputs.file_ends(call, given, inputs.outcome(calculator, call, given)), name)
@@ -208,6 +214,45 @@ class Inputs(unittest.TestCase):
             self.assertLessEqual({-1, 0, 1}, off, name)
             self.assertLess(min(off), -2, name)
             self.assertGreater(max(off), 5, name)
+
+
+class RowMeansInputs(unittest.TestCase):
+
+    @classmethod
+    def setUpClass(cls):
+        """For each call some accepted inputs, with what is written."""
+        cls.accepted = {}
+        for call in ("calculate", "series"):
+            results = ((given, *inputs.outcome(calculator, call, given)) for given in given_all(1, 400, call))
+            cls.accepted[call] = [(given, written) for given, answer, written in results if answer < calculator.REFUSED]
+
+    def test_numbers(self):
+        """Numbers past 8 and 16 bits; 1 state and 64; one moment; version 2; states without an arrow; weights of 0."""
+        for call, accepted in self.accepted.items():
+            found = Counter()
+            for given, written in accepted:
+                model, row_means = calculator.read_model(given["file"]), written["row_means"][0]
+                X = model.E * given.get("times", [model.T])[-1]
+                found["past 8 bits"] += row_means >= 2**8
+                found["past 16 bits"] += row_means >= 2**16
+                found["1 state"] += model.M == 1
+                found["64 states"] += model.M == 64
+                found["1 moment"] += model.R == 1
+                found["version 2"] += bool(model.a)
+                found["no arrow"] += any(row[i] == model.E for i, row in enumerate(model.c))
+                found["no weight"] += 0 in calculator.weights(X, X // 10**6)[1:]
+            self.assertEqual(len(found), 8)
+            self.assertTrue(all(found.values()), (call, found))
+
+    def test_levels_of_lists(self):
+        """Lists whose first level is below the largest, and lists of one time; no list falls."""
+        rising = alone = 0
+        for given, written in self.accepted["series"]:
+            levels, file = written["levels"][:len(given["times"])], given["file"]
+            self.assertEqual(written["row_means"], [levels[-1] * file[3] * file[4]])
+            rising += levels[0] < levels[-1]
+            alone += len(levels) == 1
+        self.assertGreater(min(rising, alone), 10)
 
 
 class Version2Inputs(unittest.TestCase):
@@ -380,15 +425,16 @@ class Cases(unittest.TestCase):
             self.assertEqual(cases.expected(made), result)
 
     def test_text(self):
-        given = dict(file=B, times=[1], levels=2, cells=5)
+        given = listing(B, [1], 2, 5)
         made = cases.case("B", "series", given, inputs.outcome(calculator, "series", given))
         refused = cases.case("none", "series", dict(given, file=b"", times=[]), (1_000_001, {
-            "levels": library.painted(2), "cells": library.painted(5)}))
+            "levels": library.painted(2), "cells": library.painted(5), "row_means": library.painted(1)}))
         self.assertEqual(cases.text([made, refused]), (
             "name B\ncall series\nfile 001B01020205F5E100000000010000000100000000000F4240000F4240\ntimes 1\n"
-            "levels_lent 2\ncells_lent 5\nanswer 1\nlevels 3\n"
-            "cells 718750000000 612500000000 281250000000 175000000000\n"
-            "\nname none\ncall series\nfile\ntimes\nlevels_lent 2\ncells_lent 5\nanswer 1000001\n"))
+            "levels_lent 2\ncells_lent 5\nrow_means_lent 1\nanswer 1\nlevels 3\n"
+            "cells 718750000000 612500000000 281250000000 175000000000\nrow_means 12\n"
+            "\nname none\ncall series\nfile\ntimes\nlevels_lent 2\ncells_lent 5\nrow_means_lent 1\n"
+            "answer 1000001\n"))
 
     def test_text_of_numbers_that_are_written(self):
         given = asked(B, state=1, n=3, r=1)
@@ -582,6 +628,8 @@ WRONG_TEXTS = {
               (BACK, BACK.replace("else", 'else ("refused", 13) if len(out) < len(file) else'))),
         wrong("rewards-dropped", "", (WITHOUT, "file[3:13 + 4 * file[3]] + file[13 + 8 * file[3]:]")),
     ),
+    ("calculate",): count_mistakes.CALCULATE,
+    ("series",): count_mistakes.SERIES,
     # All those of the kit but one: no drawn slice has 2^16 bytes.
     ("practice",): [entry for entry in practice_mistakes.TABLE if entry.name != "row-13-16-bit-count"],
 }
@@ -616,6 +664,14 @@ class Comparison(unittest.TestCase):
         self.assertEqual((status, len(saved)), (1, 1))
         self.assertRegex(said, r"\Aseries 00001-accepted: levels\[\d\]: expected \d+, got \d+\n"
                                r"input 2 of 50 differs, seed 7; it is saved as .*seed7-series-00001-accepted.txt\n\Z")
+
+    def test_number_written_by_a_refusal(self):
+        def cleared(given, answer, written):
+            return answer, {**written, "row_means": [0]} if answer > calculator.REFUSED else written
+
+        status, said, saved = self.compare(Reference(after=cleared))
+        self.assertEqual((status, len(saved)), (1, 1))
+        self.assertRegex(said, rf"\Aseries 00000-row-01: row_means\[0\]: expected {PAINT} \(as it was\), got 0\n")
 
     def test_wrong_remainders(self):
         for word, linked in WRONG_REMAINDERS.items():
@@ -652,11 +708,14 @@ class Comparison(unittest.TestCase):
 
     def test_difference(self):
         was = library.painted(3)
-        for got, words in (((3, {"cells": [1, *was[1:]]}), ""),
-                           ((4, {"cells": [1, *was[1:]]}), "answer: expected 3, got 4"),
-                           ((3, {"cells": [2, *was[1:]]}), "cells[0]: expected 1, got 2"),
-                           ((3, {"cells": [1, was[1], 5]}), f"cells[2]: expected {PAINT + 2} (as it was), got 5")):
-            self.assertEqual(library.difference("calculate", (3, {"cells": [1, *was[1:]]}), got), words)
+        for answer, cells, row_means, words in (
+                (3, [1, *was[1:]], 9, ""),
+                (4, [1, *was[1:]], 9, "answer: expected 3, got 4"),
+                (3, [2, *was[1:]], 8, "cells[0]: expected 1, got 2"),
+                (3, [1, was[1], 5], 9, f"cells[2]: expected {PAINT + 2} (as it was), got 5"),
+                (3, [1, *was[1:]], 8, "row_means[0]: expected 9, got 8")):
+            right, got = (3, {"cells": [1, *was[1:]], "row_means": [9]}), {"cells": cells, "row_means": [row_means]}
+            self.assertEqual(library.difference("calculate", right, (answer, got)), words)
 
 
 @unittest.skipIf(library.why_not(), library.why_not())
@@ -676,18 +735,21 @@ class Library(unittest.TestCase):
         cls.folder.cleanup()
 
     def call(self, kind, cells=3):
-        return self.linked.call("calculate", dict(file=bytes([kind, 2, 3]), cells=cells))
+        return self.linked.call("calculate", calculating(bytes([kind, 2, 3]), cells))
 
     def test_right(self):
-        self.assertEqual(self.call(0), (2**64 - 1, {"cells": [33, PAINT + 1, PAINT + 2]}, []))
-        self.assertEqual(self.call(0, 0), (2**64 - 1, {"cells": []}, []))
+        self.assertEqual(self.call(0), (2**64 - 1, {"cells": [33, PAINT + 1, PAINT + 2], "row_means": [PAINT]}, []))
+        self.assertEqual(self.call(0, 0), (2**64 - 1, {"cells": [], "row_means": [PAINT]}, []))
+        self.assertEqual(self.call(10, 0), (2**64 - 11, {"cells": [], "row_means": [7]}, []))
 
     def test_faults(self):
         for kind, words in ((1, f"cells[3], outside of its 3, was {PAINT + 3} and is 7"),
                             (2, f"cells[-1], outside of its 3, was {PAINT - 1} and is 7"),
                             (3, "file[1], which is only read, was 2 and is 7"),
                             (4, f"file[3], outside of its 3, was {PAINT_BYTE + 3} and is 7"),
-                            (5, "file[-1], outside of its 3, was 255 and is 7")):
+                            (5, "file[-1], outside of its 3, was 255 and is 7"),
+                            (8, f"row_means[1], outside of its 1, was {PAINT + 1} and is 7"),
+                            (9, f"row_means[-1], outside of its 1, was {PAINT - 1} and is 7")):
             answer, written, faults = self.call(kind)
             self.assertEqual((answer, faults), (2**64 - 1 - kind, [words]))
             self.assertEqual(written["cells"][0], 33)
@@ -765,8 +827,8 @@ class Library(unittest.TestCase):
             self.assertEqual((result.returncode, result.stderr.count("\n")), (2, 1))
 
     def test_signal(self):
-        text = ("import sys, library; linked = library.Library(sys.argv[1]); "
-                "sys.exit(library.in_child(lambda: linked.call('calculate', dict(file=bytes([7]), cells=1))))")
+        text = ("import sys, inputs, library; linked = library.Library(sys.argv[1]); "
+                "sys.exit(library.in_child(lambda: linked.call('calculate', inputs.calculating(bytes([7]), 1))))")
         command = [sys.executable, "-B", "-c", text, self.object]
         result = subprocess.run(command, cwd=HERE, capture_output=True, text=True, check=False)
         self.assertEqual((result.returncode, result.stderr), (1, ""))

@@ -18,6 +18,7 @@ sys.path.insert(0, HERE)
 import calculator  # noqa: E402
 import models  # noqa: E402
 import edges  # noqa: E402
+import run  # noqa: E402
 from calculator import ONE, last_division, outcome, sheet  # noqa: E402
 
 A = bytes.fromhex("00 0F 01 01 01 00 00 27 10 00 00 00 01 00 00 00 05")
@@ -260,6 +261,19 @@ class Level(unittest.TestCase):
     def test_largest_level_in_range(self):
         for X in range(1_000_000, 256_000_001, 5_000_000):
             self.assertLessEqual(calculator.level(X, 1), 1024)
+
+    def check_2m_and_51(self, name, X, epsilon):
+        self.assertLessEqual(calculator.level(X, epsilon), 2 * (X // 10**6) + 51, name)
+
+    def test_at_most_2m_and_51(self):
+        """S-8: generated and stored models, and for each m the largest X with the least tolerance."""
+        files = [*models.valid_models(8, 400), *((name, run.stored(name + ".model")) for name in run.names())]
+        accepted = [(name, calculator.read_model(file)) for name, file in files if outcome(file, 520)[0] == "level"]
+        self.assertGreater(len(accepted), 700)
+        for name, model in accepted:
+            self.check_2m_and_51(name, model.X, model.epsilon)
+        for m in range(257):
+            self.check_2m_and_51(m, min(m * 10**6 + 999_999, 256_000_000), 1)
 
 
 class LastDivision(unittest.TestCase):
@@ -561,8 +575,8 @@ class Series(unittest.TestCase):
             return calculator.tail(w, X, n) - sum(w) * epsilon // 10**9
 
         rng = random.Random(33)
-        for _ in range(150):
-            n, epsilon = rng.randint(2, 358), rng.choice([1, 1, 1, 2, rng.randint(3, 1_000)])
+        others = ((rng.randint(1, 358), rng.choice([2, 3, rng.randint(4, 1_000)])) for _ in range(150))
+        for n, epsilon in (*((n, 1) for n in range(1, 359)), *others):
             low, high = 1, min(n * 10**6, 256_000_000)
             if miss(low) > 0 or miss(high) <= 0:
                 continue
@@ -582,7 +596,9 @@ class Series(unittest.TestCase):
         right = calculator.series(B, [1, 2], [0, 0], [0] * 8)
         with mock.patch.object(calculator, "level", side_effect=lambda X, epsilon: 9 - X // 10**6):
             levels, blocks = self.blocks(B, [1, 2])
-        self.assertEqual((right, levels), (("times", 2), [8, 7]))
+            row_means = [7]
+            calculator.series(B, [1, 2], [0, 0], [0] * 8, row_means)
+        self.assertEqual((right, levels, row_means), (("times", 2), [8, 7], [8 * 2 * 2]))
         self.assertEqual(blocks[0][0], calculator.moment(
             calculator.weights(10**6, 8), calculator.reward_vectors(calculator.read_model(B), 8), 8, 0, 1))
 
@@ -590,6 +606,75 @@ class Series(unittest.TestCase):
         self.assertEqual(calculator.answer(("refused", 14)), 1_000_014)
         self.assertEqual(calculator.answer(("times", 8)), 8)
         self.assertEqual(calculator.answer(("level", 3)), 3)
+
+
+class RowMeans(unittest.TestCase):
+    """S-8: the number of row means that a call takes, one for each state, each r and each n from 1 to N."""
+
+    def of_file(self, file):
+        """The level of an accepted file, and the number of row means given."""
+        row_means = [7]
+        word, N = calculator.calculate(file, [0] * 520, row_means)
+        self.assertEqual(word, "level")
+        return N, row_means[0]
+
+    def of_list(self, file, times):
+        """The levels of an accepted list, and the number of row means given."""
+        levels, row_means = [0] * len(times), [7]
+        result = calculator.series(file, times, levels, [0] * 4160, row_means)
+        self.assertEqual(result, ("times", len(times)))
+        return levels, row_means[0]
+
+    def test_by_hand(self):
+        self.assertEqual(self.of_file(A), (1, 1))
+        self.assertEqual(self.of_file(B), (3, 12))
+        self.assertEqual(self.of_file(put(B, 9, 4, 2)), (4, 16))
+        self.assertEqual(self.of_file(put(B, 4, 1, 1)), (3, 6))
+        self.assertEqual(self.of_file(B2), (3, 12))             # the start figures take none
+
+    def test_lists_by_hand(self):
+        self.assertEqual(self.of_list(A, [1, 2, 3]), ([1, 1, 1], 1))
+        self.assertEqual(self.of_list(B, [1]), ([3], 12))
+        self.assertEqual(self.of_list(B, [1, 2]), ([3, 4], 16))
+        self.assertEqual(self.of_list(B2, [1, 2]), ([3, 4], 16))
+        self.assertEqual(self.of_list(put(B, 9, 4, 257), [1, 2]), ([3, 4], 16))
+        self.assertEqual(self.of_list(B, [1, 2, 256]), ([3, 4, 280], 1120))
+
+    def test_refused(self):
+        for row, file in EXAMPLES.items():
+            row_means = [7]
+            self.assertEqual(calculator.calculate(file, [0] * 520, row_means), ("refused", row))
+            self.assertEqual(calculator.series(file, [1, 257], [0] * 9, [0] * 99, row_means), ("refused", row))
+            self.assertEqual(row_means, [7], row)
+        for row, times, levels, cells in ((14, [], 9, 99), (15, [1, 1], 9, 99), (12, [257], 9, 99), (8, [0], 9, 99),
+                                          (13, [1], 0, 99), (13, [1], 9, 3)):
+            row_means = [7]
+            self.assertEqual(calculator.series(B, times, [0] * levels, [0] * cells, row_means), ("refused", row))
+            self.assertEqual(row_means, [7], row)
+        row_means = [7]
+        self.assertEqual(calculator.calculate(B, [0] * 3, row_means), ("refused", 13))
+        self.assertEqual(row_means, [7])
+
+    def test_N_M_R(self):
+        for name, file in models.valid_models(9, 200):
+            N, row_means = self.of_file(file)
+            self.assertEqual(row_means, N * file[3] * file[4], name)
+
+    def test_N_M_R_of_lists(self):
+        several = 0
+        for name, file in models.valid_models(10, 120):
+            most = 256_000_000 // calculator.read_model(file).E
+            rng = random.Random(name)
+            times = sorted(rng.sample(range(1, most + 1), min(most, rng.randint(1, 8))))
+            if file[3]**2 * file[4] <= 300:
+                levels, row_means = self.of_list(file, times)
+                self.assertEqual(row_means, max(levels) * file[3] * file[4], name)
+                several += len(set(levels)) > 1
+        self.assertGreater(several, 20)
+
+    def test_largest(self):
+        file = models.build(**models.heaviest(random.Random(1)))
+        self.assertEqual(self.of_file(file), (358, 358 * 64 * 8))
 
 
 class Remainders(unittest.TestCase):

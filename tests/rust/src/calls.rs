@@ -94,6 +94,30 @@ fn at_most_one(cells: &[u64]) -> Result<(), String> {
     }
 }
 
+/// The number of row means of a run of an accepted file to this level: one for each state, each r and each n from 1.
+fn row_means_to(level: u64, file: &[u8]) -> u64 {
+    level * u64::from(file[3]) * u64::from(file[4])
+}
+
+/// Whether the number of row means is that of the level, of several times the largest.
+fn row_means_are_of(levels: &[u64], file: &[u8], row_means: &[u64]) -> Result<(), String> {
+    let largest = levels.iter().copied().max().expect("a time");
+    match row_means_to(largest, file) {
+        right if row_means == [right] => Ok(()),
+        right => Err(format!("{row_means:?} row means, and N × M × R is {right}")),
+    }
+}
+
+/// Whether the level of an accepted file at this time is at most 2 × m + 51.
+fn level_is_bounded(file: &[u8], time: u32, level: u64) -> Result<(), String> {
+    let [exit, _] = independent::sizes(file).expect("an accepted file").divisors;
+    let most = 2 * (exit * u64::from(time) / 1_000_000) + 51;
+    if level > most {
+        return Err(format!("the level {level} is above {most}"));
+    }
+    Ok(())
+}
+
 /// The sum of the starting weights.
 const MILLION: u64 = 1_000_000;
 
@@ -170,6 +194,7 @@ fn place(start: &[u64]) -> &'static str {
 }
 
 const ROUNDED_BY_HALF: &str = "accepted, a start figure half a tick or more below its sum";
+const PAST_16_BITS: &str = "accepted, more than 65,535 row means";
 
 /// In an accepted file of version 2: the moments and the start figures of a block.
 fn moments_and_figures<'a>(file: &[u8], block: &'a [u64]) -> (&'a [u64], &'a [u64]) {
@@ -200,29 +225,33 @@ fn start_is_of_one(file: &[u8], block: &[u64]) -> Result<(), String> {
 impl Case for Input {
     const CALL: &'static str = "calculate";
     const ROWS: &'static [u8] = &[1, 2, 3, 4, 5, 6, 7, 8, 16, 9, 10, 11, 12, 13];
-    const ENDS: Ends = &[ACCEPTED_VERSIONS, WRONG_VERSIONS, WRONG_SUMS, &[ROUNDED_BY_HALF]];
-    type Function = fn(&[u8], &mut [u64]) -> Answer;
+    const ENDS: Ends = &[ACCEPTED_VERSIONS, WRONG_VERSIONS, WRONG_SUMS, &[ROUNDED_BY_HALF, PAST_16_BITS]];
+    type Function = fn(&[u8], &mut [u64], &mut u64) -> Answer;
     const PROVED: Self::Function = library::calculate;
     const INDEPENDENT: Self::Function = independent::calculate;
 
     fn run(&self, call: Self::Function) -> Outcome {
         let file = Lent::holding("byte", &self.file);
         let mut cells = Lent::marked("cell", self.cells);
-        let answer = call(file.slice(), cells.slice_mut());
-        let count = answer.map_or(0, |_| block(&self.file));
-        let written = file.unchanged().and_then(|()| Ok(vec![cells.written(count)?]));
+        let mut row_means = Lent::marked("row means", 1);
+        let answer = call(file.slice(), cells.slice_mut(), row_means.number_mut());
+        let (count, one) = answer.map_or((0, 0), |_| (block(&self.file), 1));
+        let written = file.unchanged().and_then(|()| Ok(vec![cells.written(count)?, row_means.written(one)?]));
         Outcome { answer, written }
     }
 
-    fn accepted(&self, _: u64, written: &Written) -> Result<(), String> {
+    fn accepted(&self, level: u64, written: &Written) -> Result<(), String> {
         at_most_one(&written[0].1)?;
-        start_is_of_one(&self.file, &written[0].1)
+        start_is_of_one(&self.file, &written[0].1)?;
+        row_means_are_of(&[level], &self.file, &written[1].1)?;
+        level_is_bounded(&self.file, models::own_time(&self.file), level)
     }
 
     fn ends(&self, answer: Answer, written: &Written) -> Vec<&'static str> {
         let mut ends = version_ends(&self.file, answer);
-        if answer.is_ok() && rounded_by_half(&self.file, &written[0].1) {
-            ends.push(ROUNDED_BY_HALF);
+        if answer.is_ok() {
+            ends.extend(rounded_by_half(&self.file, &written[0].1).then_some(ROUNDED_BY_HALF));
+            ends.extend((written[1].1[0] > 65_535).then_some(PAST_16_BITS));
         }
         ends
     }
@@ -258,10 +287,11 @@ impl Case for SeriesInput {
         WRONG_VERSIONS,
         WRONG_SUMS,
         &TIMES,
-        &[LEVELS_DIFFER, OWN_TIME_TOO_LATE, OWN_TIME_0, FIRST_TIME_0, NO_TIME, MANY_TIMES, EQUAL, FALLING],
+        &[LEVELS_DIFFER, PAST_16_BITS, OWN_TIME_TOO_LATE],
+        &[OWN_TIME_0, FIRST_TIME_0, NO_TIME, MANY_TIMES, EQUAL, FALLING],
         &[OWN_TIME_FITS, FEW_LEVELS, FEW_CELLS, FEW_OF_BOTH],
     ];
-    type Function = fn(&[u8], &[u32], &mut [u64], &mut [u64]) -> Answer;
+    type Function = fn(&[u8], &[u32], &mut [u64], &mut [u64], &mut u64) -> Answer;
     const PROVED: Self::Function = library::series;
     const INDEPENDENT: Self::Function = independent::series;
 
@@ -270,24 +300,31 @@ impl Case for SeriesInput {
         let times = Lent::holding("time", &self.times);
         let mut levels = Lent::marked("level", self.levels);
         let mut cells = Lent::marked("cell", self.cells);
-        let answer = call(file.slice(), times.slice(), levels.slice_mut(), cells.slice_mut());
-        let (count, block) = answer.map_or((0, 0), |_| (self.times.len(), block(&self.file)));
+        let mut row_means = Lent::marked("row means", 1);
+        let answer = call(file.slice(), times.slice(), levels.slice_mut(), cells.slice_mut(), row_means.number_mut());
+        let (count, block, one) = answer.map_or((0, 0, 0), |_| (self.times.len(), block(&self.file), 1));
         let written = file
             .unchanged()
             .and_then(|()| times.unchanged())
-            .and_then(|()| Ok(vec![levels.written(count)?, cells.written(count * block)?]));
+            .and_then(|()| Ok(vec![levels.written(count)?, cells.written(count * block)?, row_means.written(one)?]));
         Outcome { answer, written }
     }
 
-    /// Each level and each block is that of the file with the time in bytes 9 to 12.
+    /// Each level and each block is that of the file with the time in bytes 9 to 12; the row means are those of the
+    /// largest level.
     fn accepted(&self, _: u64, written: &Written) -> Result<(), String> {
         let (levels, cells) = (&written[0].1, &written[1].1);
         let block = block(&self.file);
         at_most_one(cells)?;
+        row_means_are_of(levels, &self.file, &written[2].1)?;
         for (k, &time) in self.times.iter().enumerate() {
-            let alone = Input { file: self.with_time(time), cells: block }.run(library::calculate);
+            let file = self.with_time(time);
+            level_is_bounded(&file, time, levels[k])?;
             let figures = cells[k * block..][..block].to_vec();
-            let listed = Outcome { answer: Ok(levels[k]), written: Ok(vec![("cell", figures)]) };
+            let row_means = vec![row_means_to(levels[k], &file)];
+            let listed = vec![("cell", figures), ("row means", row_means)];
+            let alone = Input { file, cells: block }.run(library::calculate);
+            let listed = Outcome { answer: Ok(levels[k]), written: Ok(listed) };
             listed.compare(&alone, "alone").map_err(|what| format!("time {time}: {what}"))?;
         }
         Ok(())
@@ -295,18 +332,15 @@ impl Case for SeriesInput {
 
     fn ends(&self, answer: Answer, written: &Written) -> Vec<&'static str> {
         let count = self.times.len();
-        let own = || library::calculate(&self.file, &mut [0; 520]);
+        let own = || library::calculate(&self.file, &mut [0; 520], &mut 0);
         let mut ends = version_ends(&self.file, answer);
         ends.extend(match answer {
             Ok(_) => {
                 let levels = &written[0].1;
                 let mut ends = vec![TIMES[count - 1]];
-                if levels.iter().any(|level| level != &levels[0]) {
-                    ends.push(LEVELS_DIFFER);
-                }
-                if own() == Err(12) {
-                    ends.push(OWN_TIME_TOO_LATE);
-                }
+                ends.extend(levels.iter().any(|level| level != &levels[0]).then_some(LEVELS_DIFFER));
+                ends.extend((written[2].1[0] > 65_535).then_some(PAST_16_BITS));
+                ends.extend((own() == Err(12)).then_some(OWN_TIME_TOO_LATE));
                 ends
             }
             Err(8) if self.file[9..13] == [0; 4] => vec![OWN_TIME_0],
@@ -508,7 +542,7 @@ impl<const TO: u8> Case for MoveInput<TO> {
         let moved: Vec<u8> = written[0].1.iter().map(|&byte| byte as u8).collect();
         let [of_file, of_moved] = [&self.file, &moved].map(|file| {
             let mut cells = [0; 520];
-            library::calculate(file, &mut cells).map(|level| (level, cells))
+            library::calculate(file, &mut cells, &mut 0).map(|level| (level, cells))
         });
         let (Ok((level, cells)), Ok((moved_level, moved_cells))) = (of_file, of_moved) else {
             return Err("the file or the moved file is not accepted".to_string());

@@ -1,6 +1,6 @@
 //! The calculation of document 01 with the last division of document 02's S-1, for the file's own time or for a list of
-//! times (S-3), the remainders of its divisions (S-4), files with a starting distribution and their converter (S-5), and
-//! practice files (S-6), written from the papers alone, in plain u128 arithmetic.
+//! times (S-3), the remainders of its divisions (S-4), files with a starting distribution and their converter (S-5),
+//! practice files (S-6), and the number of row means (S-8), written from the papers alone, in plain u128 arithmetic.
 //!
 //! Nothing here was taken from the proved code: not its helper, not its order of work. Every product is
 //! formed whole in 128 bits and divided once, so each line can be read against the paper's sentence.
@@ -245,12 +245,14 @@ fn first_vectors(model: &Model) -> Vec<Vec<u128>> {
     vectors
 }
 
-/// U(n,0) to U(n,R), where `before` is U(n−1,0) to U(n−1,R); U(n,0) is ONE everywhere.
-fn next_vectors(model: &Model, n: usize, before: &[Vec<u128>]) -> Vec<Vec<u128>> {
+/// U(n,0) to U(n,R), where `before` is U(n−1,0) to U(n−1,R); U(n,0) is ONE everywhere. Each row mean V adds one to
+/// `row_means`.
+fn next_vectors(model: &Model, n: usize, before: &[Vec<u128>], row_means: &mut u64) -> Vec<Vec<u128>> {
     let mut vectors = vec![vec![ONE; model.states()]];
     for r in 1..=model.highest {
         let at = |i| {
             let [_, _, u] = divisions(model, i, n, r, &before[r], &vectors[r - 1]);
+            *row_means += 1;
             u.quotient
         };
         let vector = (0..model.states()).map(at).collect();
@@ -266,19 +268,21 @@ fn last_division(a: u128, s: u128) -> u128 {
 }
 
 /// Fills `levels[k]` with the level of time k, and the k-th block of `cells` with its moments: moment r of state i in
-/// cell (i − 1) × R + (r − 1) of the block, states counted from 1; in version 2 the start figures follow.
-fn work_out(model: &Model, levels: &mut [u64], cells: &mut [u64]) {
+/// cell (i − 1) × R + (r − 1) of the block, states counted from 1; in version 2 the start figures follow. Returns the
+/// number of row means that it took: the vectors go once to the largest level, for all times.
+fn work_out(model: &Model, levels: &mut [u64], cells: &mut [u64]) -> u64 {
     let states = model.states();
     let weights: Vec<Vec<u128>> = model.times.iter().map(|&time| weigh(model, time)).collect();
     let terms = weights.iter().map(Vec::len).max().expect("at least one time");
 
     // u[r][i] is U(n,r) at i
     let mut u = first_vectors(model);
+    let mut row_means = 0;
     // a[k][r][i] is time k's A, the sum over n of (w(n) × U(n,r) at i over 10^12)
     let mut a = vec![vec![vec![0; states]; model.highest + 1]; model.times.len()];
     for n in 0..terms {
         if n > 0 {
-            u = next_vectors(model, n, &u);
+            u = next_vectors(model, n, &u, &mut row_means);
         }
         for (a, weights) in a.iter_mut().zip(&weights) {
             // past its own level a time takes no term
@@ -306,6 +310,7 @@ fn work_out(model: &Model, levels: &mut [u64], cells: &mut [u64]) {
             fill_start_figures(model, moments, figures);
         }
     }
+    row_means
 }
 
 /// For each r the sum over the states of weight times moment, over 1,000,000, down.
@@ -318,24 +323,30 @@ fn fill_start_figures(model: &Model, moments: &[u64], figures: &mut [u64]) {
 }
 
 /// Judges `file`, and where no row of the table holds fills `cells[(i − 1) × R + (r − 1)]` with the moments,
-/// states counted from 1, and those after them in version 2 with the start figures, and returns the level N. Otherwise
-/// returns the row, and leaves the cells alone.
-pub fn calculate(file: &[u8], cells: &mut [u64]) -> Result<u64, u8> {
+/// states counted from 1, and those after them in version 2 with the start figures, puts the number of row means to
+/// `row_means`, and returns the level N. Otherwise returns the row, and leaves the cells and the number alone.
+pub fn calculate(file: &[u8], cells: &mut [u64], row_means: &mut u64) -> Result<u64, u8> {
     let mut levels = [0];
     let model = read(file, &BOTH_VERSIONS, None)?;
     enough(&model, levels.len(), cells.len())?;
-    work_out(&model, &mut levels, cells);
+    *row_means = work_out(&model, &mut levels, cells);
     Ok(levels[0])
 }
 
 /// Judges `file` together with the list `times`, and where no row of the table holds fills, for each time in the list's
-/// order, a level and a block of cells, and returns the number of times. Otherwise returns the row, and leaves
-/// the levels and the cells alone.
+/// order, a level and a block of cells, puts the number of row means to `row_means`, and returns the number of times.
+/// Otherwise returns the row, and leaves the levels, the cells and the number alone.
 #[allow(dead_code)] // not every program that uses this file calls it
-pub fn series(file: &[u8], times: &[u32], levels: &mut [u64], cells: &mut [u64]) -> Result<u64, u8> {
+pub fn series(
+    file: &[u8],
+    times: &[u32],
+    levels: &mut [u64],
+    cells: &mut [u64],
+    row_means: &mut u64,
+) -> Result<u64, u8> {
     let model = read(file, &BOTH_VERSIONS, Some(times))?;
     enough(&model, levels.len(), cells.len())?;
-    work_out(&model, levels, cells);
+    *row_means = work_out(&model, levels, cells);
     Ok(times.len() as u64)
 }
 
@@ -380,8 +391,8 @@ pub fn remainders(
         return Ok(1);
     }
     let (i, n, r) = (state as usize - 1, n as usize, r as usize);
-    let before = (1..n).fold(first_vectors(&model), |vectors, k| next_vectors(&model, k, &vectors));
-    let vectors = next_vectors(&model, n, &before);
+    let before = (1..n).fold(first_vectors(&model), |vectors, k| next_vectors(&model, k, &vectors, &mut 0));
+    let vectors = next_vectors(&model, n, &before, &mut 0);
     let [v, w, u] = divisions(&model, i, n, r, &before[r], &vectors[r - 1]);
     *mean = narrow(v.remainder);
     *share = narrow(w.remainder);

@@ -24,7 +24,7 @@ impl Element for u32 {
 }
 
 impl Element for u64 {
-    /// No moment, no level and no remainder.
+    /// No moment, no level, no remainder and no number of row means.
     fn marker(at: usize) -> u64 {
         0xA5A5_0000_0000_0000 | at as u64
     }

@@ -8,7 +8,13 @@ pub const GIVEN: u64 = 0;
 pub const NONE: u64 = 1;
 
 extern "C" {
-    fn kuldrepso_calculate(file: *const u8, file_length: usize, cells: *mut u64, cell_count: usize) -> u64;
+    fn kuldrepso_calculate(
+        file: *const u8,
+        file_length: usize,
+        cells: *mut u64,
+        cell_count: usize,
+        row_means: *mut u64,
+    ) -> u64;
     fn kuldrepso_series(
         file: *const u8,
         file_length: usize,
@@ -18,6 +24,7 @@ extern "C" {
         level_count: usize,
         cells: *mut u64,
         cell_count: usize,
+        row_means: *mut u64,
     ) -> u64;
     fn kuldrepso_remainders(
         file: *const u8,
@@ -38,14 +45,21 @@ extern "C" {
 // pointer is never null and holds as many elements as it says, and a reference's holds one; those to write to are
 // borrowed for writing, so they overlap no other.
 
-/// Judges `file`; the level where it is accepted, with its block in the cells, or the row that stops it.
-pub fn calculate(file: &[u8], cells: &mut [u64]) -> Result<u64, u8> {
-    accepted(unsafe { kuldrepso_calculate(file.as_ptr(), file.len(), cells.as_mut_ptr(), cells.len()) })
+/// Judges `file`; the level where it is accepted, with its block in the cells and the number of row means that the run
+/// took in `row_means`, or the row that stops it.
+pub fn calculate(file: &[u8], cells: &mut [u64], row_means: &mut u64) -> Result<u64, u8> {
+    accepted(unsafe { kuldrepso_calculate(file.as_ptr(), file.len(), cells.as_mut_ptr(), cells.len(), row_means) })
 }
 
 /// Judges `file` with a list of times; the number of times where both are accepted, with the levels and the blocks in
-/// their cells, or the row that stops them.
-pub fn series(file: &[u8], times: &[u32], levels: &mut [u64], cells: &mut [u64]) -> Result<u64, u8> {
+/// their cells and the number of row means that the run took in `row_means`, or the row that stops them.
+pub fn series(
+    file: &[u8],
+    times: &[u32],
+    levels: &mut [u64],
+    cells: &mut [u64],
+    row_means: &mut u64,
+) -> Result<u64, u8> {
     accepted(unsafe {
         kuldrepso_series(
             file.as_ptr(),
@@ -56,6 +70,7 @@ pub fn series(file: &[u8], times: &[u32], levels: &mut [u64], cells: &mut [u64])
             levels.len(),
             cells.as_mut_ptr(),
             cells.len(),
+            row_means,
         )
     })
 }

@@ -26,6 +26,18 @@ const A_MOMENTS: [u64; 1] = [1_000_000_000_000];
 /// With document 02's S-1.
 const B_MOMENTS: [u64; 4] = [718_750_000_000, 612_500_000_000, 281_250_000_000, 175_000_000_000];
 
+/// At the times 1 and 2. With q = 2 the level is 4: the weights 1, 2, 2, 4/3 and 2/3 sum to 7.
+const B_TIMES_1_AND_2: [u64; 8] = [
+    718_750_000_000,
+    612_500_000_000,
+    281_250_000_000,
+    175_000_000_000,
+    628_571_428_571,
+    476_190_476_190,
+    371_428_571_428,
+    219_047_619_047,
+];
+
 /// A in version 2.
 const A2: [u8; 21] = [0, 0x13, 2, 1, 1, 0, 0, 0x27, 0x10, 0, 0, 0, 1, 0, 0x0F, 0x42, 0x40, 0, 0, 0, 5];
 const A2_FIGURES: [u64; 2] = [1_000_000_000_000; 2];
@@ -299,20 +311,20 @@ fn starts<C: Case>(tally: &mut Tally, chance: &mut Chance, input: impl Fn(&Field
 /// The files of document 01: its examples of the table, and its hand-checked list; and such files of version 2.
 fn papers(tally: &mut Tally) {
     let input = |file: &[u8], cells| Input { file: file.to_vec(), cells };
-    tally.hand_checked("A", &input(&A, 1), Ok(1), &[&A_MOMENTS]);
-    tally.hand_checked("B", &input(&B, 520), Ok(3), &[&B_MOMENTS]);
-    tally.hand_checked("B with 4 cells", &input(&B, 4), Ok(3), &[&B_MOMENTS]);
-    tally.hand_checked("A2", &input(&A2, 2), Ok(1), &[&A2_FIGURES]);
-    tally.hand_checked("B2", &input(&B2, 520), Ok(3), &[&B2_FIGURES]);
-    tally.hand_checked("B2 with 6 cells", &input(&B2, 6), Ok(3), &[&B2_FIGURES]);
+    tally.hand_checked("A", &input(&A, 1), Ok(1), &[&A_MOMENTS, &[1]]);
+    tally.hand_checked("B", &input(&B, 520), Ok(3), &[&B_MOMENTS, &[12]]);
+    tally.hand_checked("B with 4 cells", &input(&B, 4), Ok(3), &[&B_MOMENTS, &[12]]);
+    tally.hand_checked("A2", &input(&A2, 2), Ok(1), &[&A2_FIGURES, &[1]]);
+    tally.hand_checked("B2", &input(&B2, 520), Ok(3), &[&B2_FIGURES, &[12]]);
+    tally.hand_checked("B2 with 6 cells", &input(&B2, 6), Ok(3), &[&B2_FIGURES, &[12]]);
     for (name, file, row) in stopped_at_own_time() {
-        tally.hand_checked(name, &input(&file, 520), Err(row), &[&[]]);
-        tally.hand_checked(name, &input(&file, 0), Err(row), &[&[]]);
+        tally.hand_checked(name, &input(&file, 520), Err(row), &[&[], &[]]);
+        tally.hand_checked(name, &input(&file, 0), Err(row), &[&[], &[]]);
     }
-    tally.hand_checked("B with 3 cells", &input(&B, 3), Err(13), &[&[]]);
-    tally.hand_checked("A2 with 1 cell", &input(&A2, 1), Err(13), &[&[]]);
+    tally.hand_checked("B with 3 cells", &input(&B, 3), Err(13), &[&[], &[]]);
+    tally.hand_checked("A2 with 1 cell", &input(&A2, 1), Err(13), &[&[], &[]]);
     for cells in 0..6 {
-        tally.hand_checked("B2 with too few cells", &input(&B2, cells), Err(13), &[&[]]);
+        tally.hand_checked("B2 with too few cells", &input(&B2, cells), Err(13), &[&[], &[]]);
     }
     for (name, file) in [
         ("B, time 256", with(&B, 9, 256)),
@@ -349,22 +361,24 @@ fn series_papers(tally: &mut Tally) {
     };
     let eight = [1, 2, 3, 4, 5, 6, 7, 8];
     let nine = [1, 2, 3, 4, 5, 6, 7, 8, 9];
-    tally.hand_checked("A", &input(&A, &[1], 1, 1), Ok(1), &[&[1], &A_MOMENTS]);
-    tally.hand_checked("A, eight times", &input(&A, &eight, 8, 8), Ok(8), &[&[1; 8], &[A_MOMENTS[0]; 8]]);
-    tally.hand_checked("B", &input(&B, &[1], 1, 4), Ok(1), &[&[3], &B_MOMENTS]);
-    tally.hand_checked("B, own time 257", &input(&with(&B, 9, 257), &[1], 9, 99), Ok(1), &[&[3], &B_MOMENTS]);
+    tally.hand_checked("A", &input(&A, &[1], 1, 1), Ok(1), &[&[1], &A_MOMENTS, &[1]]);
+    tally.hand_checked("A, eight times", &input(&A, &eight, 8, 8), Ok(8), &[&[1; 8], &[A_MOMENTS[0]; 8], &[1]]);
+    tally.hand_checked("B", &input(&B, &[1], 1, 4), Ok(1), &[&[3], &B_MOMENTS, &[12]]);
+    tally.hand_checked("B, times 1 and 2", &input(&B, &[1, 2], 2, 8), Ok(2), &[&[3, 4], &B_TIMES_1_AND_2, &[16]]);
+    tally.hand_checked("B, own time 257", &input(&with(&B, 9, 257), &[1], 9, 99), Ok(1), &[&[3], &B_MOMENTS, &[12]]);
     let late = with(&B, 9, u32::MAX);
-    tally.hand_checked("B, own time 2^32 − 1", &input(&late, &[1], 1, 4), Ok(1), &[&[3], &B_MOMENTS]);
-    tally.hand_checked("A2, eight times", &input(&A2, &eight, 8, 16), Ok(8), &[&[1; 8], &[A2_FIGURES[0]; 16]]);
-    tally.hand_checked("B2", &input(&B2, &[1], 1, 6), Ok(1), &[&[3], &B2_FIGURES]);
-    tally.hand_checked("B2, own time 257", &input(&with(&B2, 9, 257), &[1], 9, 99), Ok(1), &[&[3], &B2_FIGURES]);
+    tally.hand_checked("B, own time 2^32 − 1", &input(&late, &[1], 1, 4), Ok(1), &[&[3], &B_MOMENTS, &[12]]);
+    tally.hand_checked("A2, eight times", &input(&A2, &eight, 8, 16), Ok(8), &[&[1; 8], &[A2_FIGURES[0]; 16], &[1]]);
+    tally.hand_checked("B2", &input(&B2, &[1], 1, 6), Ok(1), &[&[3], &B2_FIGURES, &[12]]);
+    let late = with(&B2, 9, 257);
+    tally.hand_checked("B2, own time 257", &input(&late, &[1], 9, 99), Ok(1), &[&[3], &B2_FIGURES, &[12]]);
 
     for (name, file, row) in stopped() {
         for times in [&[1][..], &[], &[0], &nine, &[1, 1], &[u32::MAX]] {
             // a first time of 0 is row 8
             let row = if times.first() == Some(&0) { row.min(8) } else { row };
             for (levels, cells) in [(8, 4_096), (0, 0)] {
-                tally.hand_checked(name, &input(&file, times, levels, cells), Err(row), &[&[], &[]]);
+                tally.hand_checked(name, &input(&file, times, levels, cells), Err(row), &[&[], &[], &[]]);
             }
         }
     }
@@ -398,7 +412,7 @@ fn series_papers(tally: &mut Tally) {
         ("version 2, cells for the moments alone", &B2, &[1, 2], 2, 8, 13),
     ];
     for (name, file, times, levels, cells, row) in rows {
-        tally.hand_checked(&format!("B, {name}"), &input(file, times, levels, cells), Err(row), &[&[], &[]]);
+        tally.hand_checked(&format!("B, {name}"), &input(file, times, levels, cells), Err(row), &[&[], &[], &[]]);
     }
     for version in [1, 2] {
         let block = if version == 2 { 6 } else { 4 };
@@ -807,7 +821,7 @@ fn stored(name: String) -> (String, Vec<u8>) {
 
 /// A file with a list that ends in its own time: an hour, half of the time, an hour less, the time.
 fn up_to_own_time(file: &[u8]) -> SeriesInput {
-    let own = file.get(9..13).map_or(1, |bytes| bytes.iter().fold(0, |sum, &byte| sum << 8 | u32::from(byte)));
+    let own = if file.len() < 13 { 1 } else { models::own_time(file) };
     let mut times = vec![1, own / 2, own.saturating_sub(1), own];
     times.retain(|&time| time > 0);
     times.sort();

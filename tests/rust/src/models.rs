@@ -127,6 +127,11 @@ impl SeriesInput {
     }
 }
 
+/// The file's own time, bytes 9 to 12.
+pub fn own_time(file: &[u8]) -> u32 {
+    file[9..13].iter().fold(0, |sum, &byte| sum << 8 | u32::from(byte))
+}
+
 /// One input of the call for remainders: what is asked for are a state, n and r, in this order.
 pub struct RemaindersInput {
     pub file: Vec<u8>,
