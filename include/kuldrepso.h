@@ -1,6 +1,7 @@
 /* Moments of the accumulated reward of a repairable system, and their truncation level: document 01's
- * calculation, its last division rounded to the nearest tick (document 02, S-1), at one time or at several (S-3), what
- * its divisions leave over (S-4), files with a starting distribution (S-5), and practice files (S-6), for C.
+ * calculation, its last division rounded to the nearest tick (document 02, S-1), at one time or at several (S-3), how
+ * many row means that takes (S-8), what its divisions leave over (S-4), files with a starting distribution (S-5), and
+ * practice files (S-6), for C.
  * `./build kuldrepso` makes the library, libkuldrepso.a (x86-64), and prints its path; it needs nothing but memcpy and
  * memset. The contracts of its calls are proved: crates/kuldrepso/src/lib.rt. */
 #ifndef KULDREPSO_H
@@ -16,8 +17,8 @@ extern "C" {
 /* The version of this header, and of the library beside it. MINOR rises where calls or macros are added and a program
  * that was written before stays right. MAJOR rises, and MINOR starts again at 0, where such a program has to be looked
  * through: a call takes other parameters or answers something else, or a macro has another value. */
-#define KULDREPSO_VERSION_MAJOR 3
-#define KULDREPSO_VERSION_MINOR 1
+#define KULDREPSO_VERSION_MAJOR 4
+#define KULDREPSO_VERSION_MINOR 0
 
 /* An answer below this is an acceptance; any other is this and the number of a refusal. */
 #define KULDREPSO_REFUSED UINT64_C(1000000)
@@ -47,19 +48,24 @@ extern "C" {
  *
  * Answers
  *   N                       the level, from 1 to 563, where no row of the table below holds. Then cells[0] .. cells[B - 1]
- *                           hold the file's block. Every cell from B on is as it was.
- *   KULDREPSO_REFUSED + k   where row k is the first that holds. Every cell is as it was.
+ *                           hold the file's block, and *row_means the number of row means that were taken, one for each
+ *                           state, each r and each n from 1 to N: N * M * R. Every cell from B on is as it was.
+ *   KULDREPSO_REFUSED + k   where row k is the first that holds. Every cell is as it was, and so is *row_means.
+ *
+ * How long the series can be is known before it begins: N is at most 2 * m + 51 (S-8), where m is the expected jump count,
+ * rounded down: E times the file's time, over 1,000,000.
  *
  * The table, in its order: rows 1 to 8 of document 01's "What stops a file", where 3 holds for any version but 1 and 2, and 6
  * reads the length of the file's version; 16, the weights of a version 2 file do not sum to 1,000,000; rows 9 to 12; 13,
  * cell_count is below B.
  *
- * Each slice is a pointer and a count of its elements, not of bytes. Neither pointer may be null, also where its
- * count is 0 (any suitably aligned address does then); the two must not overlap; file_length and 8 * cell_count are
- * at most PTRDIFF_MAX. That is all a caller owes: any bytes and any count of cells get an answer. Nothing is kept,
- * nothing is allocated, and calls on different cells may run at once. Until an accepting call returns, its B
- * cells may hold sums that are no moments yet. It takes less than 128 KB of stack. */
-uint64_t kuldrepso_calculate(const uint8_t *file, size_t file_length, uint64_t *cells, size_t cell_count);
+ * Each slice is a pointer and a count of its elements, not of bytes; row_means points to one number. No pointer may be
+ * null, also where its count is 0 (any suitably aligned address does then); the slices and the number must not overlap;
+ * file_length and 8 * cell_count are at most PTRDIFF_MAX. That is all a caller owes: any bytes and any count of cells get
+ * an answer. Nothing is kept, nothing is allocated, and calls on different cells and numbers may run at once. Until an
+ * accepting call returns, its B cells may hold sums that are no moments yet. It takes less than 128 KB of stack. */
+uint64_t kuldrepso_calculate(const uint8_t *file, size_t file_length, uint64_t *cells, size_t cell_count,
+                             uint64_t *row_means);
 
 /* Judges the model file together with a list of times, in whole hours, and calculates its moments for each of them
  * (document 02, S-3). The file's own time is judged, at row 8, and not used.
@@ -68,18 +74,25 @@ uint64_t kuldrepso_calculate(const uint8_t *file, size_t file_length, uint64_t *
  *   time_count              where no row of the table below holds. For time k, counted from 0: levels[k] holds its level,
  *                           and cells[k * B] .. cells[(k + 1) * B - 1] its block, that of kuldrepso_calculate. Both are
  *                           what kuldrepso_calculate gives for the file with times[k] in the place of its time, bytes 9
- *                           to 12. Every level from time_count on and every cell from time_count * B on is as it was.
- *   KULDREPSO_REFUSED + k   where row k is the first that holds. Every level and every cell is as it was.
+ *                           to 12. *row_means holds the number of row means that were taken, once for all times: N * M * R,
+ *                           where N is the largest of the levels. Every level from time_count on and every cell from
+ *                           time_count * B on is as it was.
+ *   KULDREPSO_REFUSED + k   where row k is the first that holds. Every level and every cell is as it was, and so is
+ *                           *row_means.
+ *
+ * Each level is at most 2 * m + 51, where m is the expected jump count at its time, rounded down.
  *
  * The table, in its order: the rows of kuldrepso_calculate's table up to 11, where 8 holds also for a list whose first time
  * is 0; 14, the list has no time or more than KULDREPSO_MOST_TIMES; 15, a time is not above the one before it; 12, judged
  * on the last time; 13, level_count is below time_count, or cell_count below time_count * B.
  *
- * A caller owes what is owed to kuldrepso_calculate, here for four slices: no pointer may be null, also where its count
- * is 0; neither levels nor cells may overlap any other slice; no slice is longer than PTRDIFF_MAX bytes. Until an accepting
- * call returns, its levels and cells may hold other numbers. It takes less than 128 KB of stack. */
+ * A caller owes what is owed to kuldrepso_calculate, here for four slices and one number: no pointer may be null, also where
+ * its count is 0; neither levels nor cells nor the number may overlap another of them or a slice; no slice is longer than
+ * PTRDIFF_MAX bytes. Until an accepting call returns, its levels and cells may hold other numbers. It takes less than 128 KB
+ * of stack. */
 uint64_t kuldrepso_series(const uint8_t *file, size_t file_length, const uint32_t *times, size_t time_count,
-                          uint64_t *levels, size_t level_count, uint64_t *cells, size_t cell_count);
+                          uint64_t *levels, size_t level_count, uint64_t *cells, size_t cell_count,
+                          uint64_t *row_means);
 
 /* What kuldrepso_remainders answers of a file without a refusal. */
 #define KULDREPSO_GIVEN 0

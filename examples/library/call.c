@@ -18,7 +18,8 @@ int main(void)
         perror("call");
         return 2;
     }
-    uint64_t answer = kuldrepso_calculate(file, count, cells, KULDREPSO_MOST_CELLS);
+    uint64_t row_means; /* how many were taken: not on the sheet */
+    uint64_t answer = kuldrepso_calculate(file, count, cells, KULDREPSO_MOST_CELLS, &row_means);
 
     if (answer >= KULDREPSO_REFUSED) {
         printf("refused %" PRIu64 "\n", answer - KULDREPSO_REFUSED);

@@ -7,16 +7,24 @@ use std::io::{stdin, stdout, Read, Write};
 use std::process::ExitCode;
 
 extern "C" {
-    fn kuldrepso_calculate(file: *const u8, file_length: usize, cells: *mut u64, cell_count: usize) -> u64;
+    fn kuldrepso_calculate(
+        file: *const u8,
+        file_length: usize,
+        cells: *mut u64,
+        cell_count: usize,
+        row_means: *mut u64,
+    ) -> u64;
 }
 
 const REFUSED: u64 = 1_000_000;
 const ONE: u64 = 1_000_000_000_000;
 
 /// The level, with the moments, and in version 2 the start figures, in the cells; or the number of the rule that stops
-/// the file, and no cell changes.
+/// the file, and no cell changes. How many row means were taken is not on the sheet, and not handed on.
 fn calculate(file: &[u8], cells: &mut [u64]) -> Result<u64, u64> {
-    let answer = unsafe { kuldrepso_calculate(file.as_ptr(), file.len(), cells.as_mut_ptr(), cells.len()) };
+    let mut row_means = 0;
+    let answer =
+        unsafe { kuldrepso_calculate(file.as_ptr(), file.len(), cells.as_mut_ptr(), cells.len(), &mut row_means) };
     if answer < REFUSED {
         Ok(answer)
     } else {

@@ -45,7 +45,8 @@ int main(int argc, char **argv)
                     row == 4 ? "M, the number of states, is 0 or above 64" : "R, the highest moment, is 0 or above 8");
             return 1;
         }
-        uint64_t level = kuldrepso_calculate(file, count, cells, KULDREPSO_MOST_CELLS); /* no practice file is refused */
+        uint64_t row_means; /* how many were taken: not printed here */
+        uint64_t level = kuldrepso_calculate(file, count, cells, KULDREPSO_MOST_CELLS, &row_means); /* never refused */
 
         printf("student %" PRIu32 "\nfile", student);
         for (uint64_t at = 0; at < count; at++) printf(" %02X", file[at]);

@@ -32,8 +32,9 @@ int main(int argc, char **argv)
         perror("series");
         return 2;
     }
+    uint64_t row_means; /* how many were taken for all times: not printed here */
     uint64_t answer = kuldrepso_series(file, count, times, time_count, levels, KULDREPSO_MOST_TIMES, cells,
-                                       KULDREPSO_MOST_TIMES * KULDREPSO_MOST_CELLS);
+                                       KULDREPSO_MOST_TIMES * KULDREPSO_MOST_CELLS, &row_means);
 
     if (answer >= KULDREPSO_REFUSED) {
         fprintf(stderr, "series: refused by row %" PRIu64 " (kuldrepso.h)\n", answer - KULDREPSO_REFUSED);
