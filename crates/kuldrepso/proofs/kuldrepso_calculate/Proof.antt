@@ -1,39 +1,35 @@
 -- Each arm returns the plain number of the outcome, and leaves the count that it says; the rest is as the call has it.
-use Prim.Native.Nat.{ℕ}
-use mathlib.Core.Path.{ap}
+use mathlib.Core.Path.{_≡_, _∙_, sym, ap}
 use native.Mathlib.Omega.{arith}
+use lib.ListN.{length}
 use borrow.Author.Needs.{needs}
-use Rattle.definitions.specs.declared.Run.{Run}
-use Rattle.definitions.specs.Rules.{Answer, saying}
-use Rattle.definitions.specs.Moment.{answerOf, countAfter}
+use Rattle.definitions.specs.declared.Outcome.{Outcome}
+use Rattle.definitions.specs.Moment.{outcome, answerOf}
 use Rattle.kuldrepso.specs.Plain.{plainAnswer}
 use Rattle.kuldrepso.proofs.kuldrepso_calculate.Statement.{statement}
 use Rattle.kuldrepso.proofs.kuldrepso_calculate.Tie as tie
 
--- the plain number of an answer, and the count after it, from that before
-abbrev plain : Answer Run → ℕ
-plain a = plainAnswer (saying (λ x. x .level) a)
-
-abbrev counted : ℕ → Answer Run → ℕ
-counted before a = countAfter (saying (λ x. x .means) a) before
+-- the outcome, as the case of the enum that an arm has
+answered : (c : tie.After-calculate) (o : Outcome) → c .calculate .result ≡ o →
+    let args = c .before .before .before .before .args in
+    outcome (args .file .now) (length (args .cells .now)) ≡ answerOf o
+answered c o told = sym (c .calculate .ensures .0) ∙ ap answerOf told
 
 returns : tie.Need-returns
 unfolding plainAnswer
 returns c =
-    let before = c .before .before .before .before .before .before .before .before .before .args .means .now in
-    let called = c .before .before .before .before .before .calculate .ensures in
-    let rest = rw (called .0) at (called .1) in
-    let told = ap answerOf (c .before .run .given .1) in
-    (omega (arith, ap plain told, ap plain (called .0)), (rest .0, (rest .1 .0, (rest .1 .1, omega (arith, ap (counted before) told, ap (counted before) (called .0))))))
+    let solved = c .before .before .before .before .before in
+    let told = c .before .run .given .1 in
+    let rest = rw told at (solved .calculate .ensures .1) in
+    rw (answered solved _ told) (omega arith, (rest .0, (rest .1 .0, (rest .1 .1, omega arith))))
 
 returns-2 : tie.Need-returns-2
 unfolding plainAnswer
 returns-2 c =
-    let before = c .before .before .before .before .before .before .before .before .before .args .means .now in
-    let called = c .before .before .before .before .before .calculate .ensures in
-    let rest = rw (called .0) at (called .1) in
-    let told = ap answerOf (c .before .row .given .1) in
-    (omega (arith, ap plain told, ap plain (called .0)), (rest .0, (rest .1 .0, (rest .1 .1, omega (arith, ap (counted before) told, ap (counted before) (called .0))))))
+    let refusal = c .before .before .before .before .before in
+    let told = c .before .row .given .1 in
+    let rest = rw told at (refusal .calculate .ensures .1) in
+    rw (answered refusal _ told) (omega arith, (rest .0, (rest .1 .0, (rest .1 .1, omega arith))))
 
 pub kuldrepso-calculate-spec : {M : Type 1} → statement M
 kuldrepso-calculate-spec =

@@ -1,44 +1,35 @@
 -- Each arm returns the plain number of the answer, and leaves the count that it says; the rest is as the call has it.
-use Prim.Native.Nat.{ℕ}
-use mathlib.Core.Path.{ap}
+use mathlib.Core.Path.{_≡_, _∙_, sym, ap}
 use native.Mathlib.Omega.{arith}
 use lib.ListN.{length}
 use borrow.Author.Needs.{needs}
-use Rattle.definitions.specs.Rules.{Answer, saying}
-use Rattle.definitions.specs.Moment.{countAfter}
-use Rattle.definitions.specs.Series.{seriesAnswer}
+use Rattle.definitions.specs.declared.Series.{Series}
+use Rattle.definitions.specs.Series.{seriesOutcome, seriesAnswer}
 use Rattle.kuldrepso.specs.Plain.{plainAnswer}
 use Rattle.kuldrepso.proofs.kuldrepso_series.Statement.{statement}
 use Rattle.kuldrepso.proofs.kuldrepso_series.Tie as tie
 
--- the plain number of an answer, where so many times are lent, and the count after it, from that before
-abbrev plain : ℕ → Answer ℕ → ℕ
-plain times a = plainAnswer (saying (λ n. times) a)
-
-abbrev counted : ℕ → Answer ℕ → ℕ
-counted before a = countAfter a before
+-- the outcome, as the case of the enum that an arm has
+answered : (c : tie.After-series) (o : Series) → c .series .result ≡ o →
+    let args = c .before .before .before .before .before .before .before .args in
+    seriesOutcome (args .file .now) (args .times .now) (length (args .levels .now)) (length (args .cells .now)) ≡ seriesAnswer o
+answered c o told = sym (c .series .ensures .0) ∙ ap seriesAnswer told
 
 returns : tie.Need-returns
 unfolding plainAnswer
 returns c =
-    let args = c .before .before .before .before .before .before .before .before .before .before .before .before .before .before .args in
-    let times = length (args .times .now) in
-    let before = args .means .now in
-    let called = c .before .before .before .before .before .before .before .series .ensures in
-    let rest = rw (called .0) at (called .1) in
-    let told = ap seriesAnswer (c .before .taken .given .1) in
-    (omega (arith, ap (plain times) told, ap (plain times) (called .0)), (rest .0, (rest .1 .0, (rest .1 .1 .0, (rest .1 .1 .1 .0, (rest .1 .1 .1 .1, omega (arith, ap (counted before) told, ap (counted before) (called .0))))))))
+    let solved = c .before .before .before .before .before .before .before in
+    let told = c .before .taken .given .1 in
+    let rest = rw told at (solved .series .ensures .1) in
+    rw (answered solved _ told) (omega arith, (rest .0, (rest .1 .0, (rest .1 .1 .0, (rest .1 .1 .1 .0, (rest .1 .1 .1 .1, omega arith))))))
 
 returns-2 : tie.Need-returns-2
 unfolding plainAnswer
 returns-2 c =
-    let args = c .before .before .before .before .before .before .before .before .before .before .before .before .before .before .args in
-    let times = length (args .times .now) in
-    let before = args .means .now in
-    let called = c .before .before .before .before .before .before .before .series .ensures in
-    let rest = rw (called .0) at (called .1) in
-    let told = ap seriesAnswer (c .before .k .given .1) in
-    (omega (arith, ap (plain times) told, ap (plain times) (called .0)), (rest .0, (rest .1 .0, (rest .1 .1 .0, (rest .1 .1 .1 .0, (rest .1 .1 .1 .1, omega (arith, ap (counted before) told, ap (counted before) (called .0))))))))
+    let refusal = c .before .before .before .before .before .before .before in
+    let told = c .before .k .given .1 in
+    let rest = rw told at (refusal .series .ensures .1) in
+    rw (answered refusal _ told) (omega arith, (rest .0, (rest .1 .0, (rest .1 .1 .0, (rest .1 .1 .1 .0, (rest .1 .1 .1 .1, omega arith))))))
 
 pub kuldrepso-series-spec : {M : Type 1} → statement M
 kuldrepso-series-spec =
