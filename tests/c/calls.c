@@ -10,8 +10,8 @@
 #include <string.h>
 #include <ucontext.h>
 
-#if KULDREPSO_VERSION_MAJOR != 3 || KULDREPSO_VERSION_MINOR != 1
-#error "this test is for version 3.1 of the header"
+#if KULDREPSO_VERSION_MAJOR != 4 || KULDREPSO_VERSION_MINOR != 0
+#error "this test is for version 4.0 of the header"
 #endif
 #if KULDREPSO_REFUSED != 1000000 || KULDREPSO_ONE != 1000000000000
 #error "KULDREPSO_REFUSED or KULDREPSO_ONE has another value than callers rely on"
@@ -115,7 +115,7 @@ static uint64_t levels[GUARD + LEVELS + GUARD];
 static uint64_t cells[GUARD + CELLS + GUARD];
 static uint8_t out[GUARD + OUT + GUARD];
 static size_t file_length, time_count, level_count, cell_count, out_length;
-static uint64_t numbers[3][NUMBER];
+static uint64_t row_means[NUMBER], numbers[3][NUMBER];
 static const struct question *asked;
 static const struct deal *deal;
 static const char *name;
@@ -123,12 +123,12 @@ static uint64_t answered;
 static uint8_t stack[STACK_GUARD + STACK];
 
 static void calculate(void) {
-    answered = kuldrepso_calculate(bytes + GUARD, file_length, cells + GUARD, cell_count);
+    answered = kuldrepso_calculate(bytes + GUARD, file_length, cells + GUARD, cell_count, row_means + GUARD);
 }
 
 static void series(void) {
     answered = kuldrepso_series(bytes + GUARD, file_length, times + GUARD, time_count, levels + GUARD, level_count,
-                                cells + GUARD, cell_count);
+                                cells + GUARD, cell_count, row_means + GUARD);
 }
 
 static void remainders(void) {
@@ -170,7 +170,7 @@ static void expect_unchanged(const char *what, const void *array, size_t array_s
 }
 
 /* What stands at a place of a slice to write to, and of its guards, before a call: a number of its own, which is no
- * moment, no level and no remainder. */
+ * moment, no level, no count of row means and no remainder. */
 static uint64_t word_before(size_t at) {
     return UINT64_C(0xA5A5000000000000) + at;
 }
@@ -226,13 +226,22 @@ static void run(const char *call_name, void (*call)(void), const uint8_t *file, 
     }
 }
 
+/* The number of row means is N * M * R, where `level` is N; where that is 0, for a refusal, the number is as before. */
+static void expect_row_means(const uint8_t *file, uint64_t level) {
+    uint64_t count = level > 0 ? level * file[3] * file[4] : 0;
+    expect_words("not as expected is the number of row means, or what lies beside it, at", row_means, NUMBER, &count,
+                 level > 0 ? 1 : 0);
+}
+
 /* The answer is to be `answer`, the first `levels_written` levels `level_words`, the first `cells_written` cells
- * `moments`, and all else as before. */
+ * `moments`, the row means those of `level`, or none where it is 0, and all else as before. */
 static void expect(const char *call_name, void (*call)(void), struct lent lent, uint64_t answer,
-                   const uint64_t *level_words, size_t levels_written, const uint64_t *moments, size_t cells_written) {
+                   const uint64_t *level_words, size_t levels_written, const uint64_t *moments, size_t cells_written,
+                   uint64_t level) {
     lend(times, sizeof times, sizeof times[0], lent.times, lent.time_count * sizeof times[0]);
     mark(levels, GUARD + LEVELS + GUARD);
     mark(cells, GUARD + CELLS + GUARD);
+    mark(row_means, NUMBER);
     time_count = lent.time_count;
     level_count = lent.level_count;
     cell_count = lent.cell_count;
@@ -241,28 +250,40 @@ static void expect(const char *call_name, void (*call)(void), struct lent lent, 
                      lent.time_count * sizeof times[0]);
     expect_words("not as expected is level", levels, GUARD + LEVELS + GUARD, level_words, levels_written);
     expect_words("not as expected is cell", cells, GUARD + CELLS + GUARD, moments, cells_written);
+    expect_row_means(lent.file, level);
 }
 
 /* kuldrepso_calculate with `length` bytes of `file` and `count` cells; the first `written` of them are to be `moments`. */
 static void expect_level(const char *call_name, const uint8_t *file, size_t length, size_t count, uint64_t level,
                          const uint64_t *moments, size_t written) {
     struct lent lent = {file, length, NULL, 0, 0, count};
-    expect(call_name, calculate, lent, level, NULL, 0, moments, written);
+    expect(call_name, calculate, lent, level, NULL, 0, moments, written, level);
 }
 
 static void expect_refusal(const char *call_name, const uint8_t *file, size_t length, size_t count, int row) {
     struct lent lent = {file, length, NULL, 0, 0, count};
-    expect(call_name, calculate, lent, KULDREPSO_REFUSED + (uint64_t)row, NULL, 0, NULL, 0);
+    expect(call_name, calculate, lent, KULDREPSO_REFUSED + (uint64_t)row, NULL, 0, NULL, 0, 0);
 }
 
-/* kuldrepso_series: `level_words` and `moments` are to be written, for each time in turn. */
+static uint64_t largest(const uint64_t *words, size_t count) {
+    uint64_t most = 0;
+    size_t k;
+    for (k = 0; k < count; k++) {
+        if (words[k] > most) most = words[k];
+    }
+    return most;
+}
+
+/* kuldrepso_series: `level_words` and `moments` are to be written, for each time in turn, and the row means of the
+ * largest level. */
 static void expect_series(const char *call_name, struct lent lent, const uint64_t *level_words, const uint64_t *moments) {
     size_t block = ((size_t)lent.file[3] + (lent.file[2] == 2)) * lent.file[4];
-    expect(call_name, series, lent, lent.time_count, level_words, lent.time_count, moments, lent.time_count * block);
+    expect(call_name, series, lent, lent.time_count, level_words, lent.time_count, moments, lent.time_count * block,
+           largest(level_words, lent.time_count));
 }
 
 static void expect_series_refusal(const char *call_name, struct lent lent, int row) {
-    expect(call_name, series, lent, KULDREPSO_REFUSED + (uint64_t)row, NULL, 0, NULL, 0);
+    expect(call_name, series, lent, KULDREPSO_REFUSED + (uint64_t)row, NULL, 0, NULL, 0, 0);
 }
 
 /* kuldrepso_remainders with `length` bytes of `file`: the three numbers are to be written where the answer is given. */
@@ -771,6 +792,20 @@ static size_t make_longest_ring(uint8_t *file, int version) {
     return length;
 }
 
+/* kuldrepso_calculate where no level is known before: the level of the file, which is to be accepted. */
+static uint64_t level_of(const char *call_name, const uint8_t *file, size_t length, uint64_t *block, size_t count) {
+    uint64_t level;
+    name = call_name;
+    mark(row_means, NUMBER);
+    level = kuldrepso_calculate(file, length, block, count, row_means + GUARD);
+    if (level >= KULDREPSO_REFUSED) {
+        fault("the answer is", level);
+        level = 0;
+    }
+    expect_row_means(file, level);
+    return level;
+}
+
 /* For each of the eight times the level and the block are those of the file with that time. */
 static void longest_series(void) {
     static const uint32_t eight[KULDREPSO_MOST_TIMES] = {1, 2, 12, 24, 72, 168, 255, 256};
@@ -784,10 +819,8 @@ static void longest_series(void) {
     make_longest_ring(file, 2);
     for (k = 0; k < KULDREPSO_MOST_TIMES; k++) {
         put(file, 9, 4, eight[k]);
-        expected_levels[k] = kuldrepso_calculate(file, KULDREPSO_MOST_BYTES, expected + k * KULDREPSO_MOST_CELLS,
-                                                 KULDREPSO_MOST_CELLS);
-        name = "the longest file, each time alone";
-        if (expected_levels[k] >= KULDREPSO_REFUSED) fault("the answer is", expected_levels[k]);
+        expected_levels[k] = level_of("the longest file, each time alone", file, KULDREPSO_MOST_BYTES,
+                                      expected + k * KULDREPSO_MOST_CELLS, KULDREPSO_MOST_CELLS);
     }
     put(file, 9, 4, 4294967295);
     expect_series("the longest file, eight times", all, expected_levels, expected);
@@ -837,7 +870,7 @@ static void longest_practice(void) {
         put(file, 9 + 4 * k, 4, k == 0 ? 1 + (word >> 16) / 4096 : (word >> 16) + (k == 1));
     }
     expect_dealt(&longest_deal, file, length);
-    if (kuldrepso_calculate(file, length, cells, 64 * 8) >= KULDREPSO_REFUSED) fault("it is refused, its length is", length);
+    level_of("the longest practice file, its level", file, length, cells, 64 * 8);
 }
 
 int main(void) {

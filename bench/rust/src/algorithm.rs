@@ -7,7 +7,7 @@
 // syntax asks for, and that the loop of `row_mean` is a function of `rows`: the same arrays by value and lent, the same
 // loops.
 
-use definitions::{Outcome, Series};
+use definitions::{Outcome, Run, Series};
 
 mod definitions {
     pub const ONE: u64 = 1_000_000_000_000;
@@ -19,13 +19,18 @@ mod definitions {
         Refused(u8),
     }
 
+    pub struct Run {
+        pub level: u64,
+        pub means: u64,
+    }
+
     pub enum Outcome {
-        Level(u64),
+        Solved(Run),
         Refused(u8),
     }
 
     pub enum Series {
-        Accepted,
+        Solved(u64),
         Refused(u8),
     }
 
@@ -510,11 +515,13 @@ mod vectors {
         r: u64,
         before: [u64; 64],
         same: [u64; 64],
+        taken: &mut u64,
     ) -> [u64; 64] {
         let states = sizes.states;
         let mut next = [0u64; 64];
         for i in 0..states {
             let v = row_mean(sizes, targets, rates, counts, &before, i);
+            *taken += 1;
             let w = reward_share(rewards[i], same[i], sizes.largest);
             let u = mix(n, r, v.quotient, w.quotient);
             next[i] = u.quotient;
@@ -557,12 +564,13 @@ mod vectors {
         rewards: &[u64; 64],
         n: u64,
         table: &mut [[u64; 64]; 9],
+        taken: &mut u64,
     ) {
         let highest = sizes.highest;
         for r in 1..highest + 1 {
             let before = table[r];
             let same = table[r - 1];
-            table[r] = step(sizes, targets, rates, counts, rewards, n, r as u64, before, same);
+            table[r] = step(sizes, targets, rates, counts, rewards, n, r as u64, before, same, taken);
         }
     }
 }
@@ -642,18 +650,20 @@ mod means {
         largest: u64,
         weights: &[u64],
         cells: &mut [u64],
-    ) {
+    ) -> u64 {
         let zeros = [0u64; 64];
         let mut table = [zeros; 9];
         vectors::first_table(sizes, rewards, &mut table);
         clear(levels.len() * sizes.block, cells);
         add_to_blocks(sizes, 0, levels, weights, &table, cells);
+        let mut taken: u64 = 0;
         let mut n: u64 = 0;
         while n < largest {
             n += 1;
-            vectors::next_table(sizes, targets, rates, counts, rewards, n, &mut table);
+            vectors::next_table(sizes, targets, rates, counts, rewards, n, &mut table, &mut taken);
             add_to_blocks(sizes, n, levels, weights, &table, cells);
         }
+        taken
     }
 
     fn last_quotient(sum: u64, total: u64) -> u64 {
@@ -716,12 +726,13 @@ mod means {
         weights: &mut [u64],
         levels: &mut [u64],
         cells: &mut [u64],
-    ) {
+    ) -> u64 {
         let count = xs.len();
         let mut totals = [0u64; MOST_TIMES];
         let largest = truncate_each(xs, tolerance, levels, &mut totals, weights);
-        accumulate(sizes, targets, rates, counts, rewards, &levels[..count], largest, weights, cells);
+        let taken = accumulate(sizes, targets, rates, counts, rewards, &levels[..count], largest, weights, cells);
         divide_blocks(&totals[..count], sizes.block, cells);
+        taken
     }
 }
 
@@ -752,7 +763,7 @@ mod start {
 }
 
 mod moments {
-    use super::definitions::{Judgement, Outcome, Series, Sizes, MOST_TIMES};
+    use super::definitions::{Judgement, Outcome, Run, Series, Sizes, MOST_TIMES};
     use super::{means, poisson, reader, refusals, rows, start};
 
     const FEW_STATES: usize = 16;
@@ -780,7 +791,7 @@ mod moments {
         weights: &mut [u64],
         levels: &mut [u64],
         cells: &mut [u64],
-    ) {
+    ) -> u64 {
         let sums = reader::row_sums(file);
         let sizes = reader::sizes_of(file, &sums);
         let mut counts = [0usize; 64];
@@ -790,66 +801,76 @@ mod moments {
         write_jumps(sizes.rate, times, &mut xs);
         let count = times.len();
         let tolerance = reader::tolerance(file);
-        means::solve(sizes, targets, rates, &counts, &rewards, &xs[..count], tolerance, weights, levels, cells);
+        let taken =
+            means::solve(sizes, targets, rates, &counts, &rewards, &xs[..count], tolerance, weights, levels, cells);
         put_starts(file, sizes, count, cells);
+        taken
     }
 
-    fn fill(file: &[u8], times: &[u32], weights: &mut [u64], levels: &mut [u64], cells: &mut [u64]) {
+    fn fill(file: &[u8], times: &[u32], weights: &mut [u64], levels: &mut [u64], cells: &mut [u64]) -> u64 {
         let states = reader::state_count(file);
         if states <= FEW_STATES {
             let mut targets = [0u8; FEW_STATES * FEW_STATES];
             let mut rates = [0u32; FEW_STATES * FEW_STATES];
-            fill_with(file, times, &mut targets, &mut rates, weights, levels, cells);
-            return;
+            return fill_with(file, times, &mut targets, &mut rates, weights, levels, cells);
         }
         let mut targets = [0u8; 64 * 64];
         let mut rates = [0u32; 64 * 64];
-        fill_with(file, times, &mut targets, &mut rates, weights, levels, cells);
+        fill_with(file, times, &mut targets, &mut rates, weights, levels, cells)
     }
 
-    fn fill_own(file: &[u8], cells: &mut [u64]) -> u64 {
+    fn fill_own(file: &[u8], cells: &mut [u64]) -> Run {
         let times = [reader::time(file)];
         let mut weights = [0u64; poisson::LEVELS];
         let mut levels = [0u64];
-        fill(file, &times, &mut weights, &mut levels, cells);
-        levels[0]
+        let means = fill(file, &times, &mut weights, &mut levels, cells);
+        Run { level: levels[0], means }
     }
 
     pub fn calculate(file: &[u8], cells: &mut [u64]) -> Outcome {
         let judgement = refusals::judge(file, cells.len());
         match judgement {
             Judgement::Refused(k) => Outcome::Refused(k),
-            Judgement::Accepted => Outcome::Level(fill_own(file, cells)),
+            Judgement::Accepted => Outcome::Solved(fill_own(file, cells)),
         }
     }
 
-    fn fill_listed(file: &[u8], times: &[u32], levels: &mut [u64], cells: &mut [u64]) {
+    fn fill_listed(file: &[u8], times: &[u32], levels: &mut [u64], cells: &mut [u64]) -> u64 {
         let mut weights = [0u64; MOST_TIMES * poisson::LEVELS];
-        fill(file, times, &mut weights, levels, cells);
+        fill(file, times, &mut weights, levels, cells)
     }
 
     pub fn series(file: &[u8], times: &[u32], levels: &mut [u64], cells: &mut [u64]) -> Series {
         let judgement = refusals::judge_series(file, times, levels.len(), cells.len());
         match judgement {
             Judgement::Refused(row) => Series::Refused(row),
-            Judgement::Accepted => {
-                fill_listed(file, times, levels, cells);
-                Series::Accepted
-            }
+            Judgement::Accepted => Series::Solved(fill_listed(file, times, levels, cells)),
         }
     }
 }
 
-pub fn calculate(file: &[u8], cells: &mut [u64]) -> Result<u64, u8> {
+pub fn calculate(file: &[u8], cells: &mut [u64], row_means: &mut u64) -> Result<u64, u8> {
     match moments::calculate(file, cells) {
-        Outcome::Level(level) => Ok(level),
+        Outcome::Solved(Run { level, means }) => {
+            *row_means = means;
+            Ok(level)
+        }
         Outcome::Refused(row) => Err(row),
     }
 }
 
-pub fn series(file: &[u8], times: &[u32], levels: &mut [u64], cells: &mut [u64]) -> Result<u64, u8> {
+pub fn series(
+    file: &[u8],
+    times: &[u32],
+    levels: &mut [u64],
+    cells: &mut [u64],
+    row_means: &mut u64,
+) -> Result<u64, u8> {
     match moments::series(file, times, levels, cells) {
-        Series::Accepted => Ok(times.len() as u64),
+        Series::Solved(taken) => {
+            *row_means = taken;
+            Ok(times.len() as u64)
+        }
         Series::Refused(row) => Err(row),
     }
 }

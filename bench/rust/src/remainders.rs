@@ -24,21 +24,23 @@ const LIBRARY: usize = 0;
 const PLAIN: usize = 1;
 const MOMENTS: usize = 2;
 
-/// A model file, the state, n and r, and what is left at them.
+/// A model file, the state, n and r, what is left at them, and the number of row means of the moments.
 struct Case {
     name: String,
     file: Vec<u8>,
     asked: [u64; 3],
     expected: [u64; 3],
+    row_means: u64,
 }
 
 impl Case {
     fn read(path: &Path) -> Case {
         let name = path.file_stem().expect("a file's name").to_string_lossy().into_owned();
         let file = std::fs::read(path).expect("a model file");
-        let level = independent::calculate(&file, &mut [0; CELLS]).expect("an accepted file");
+        let mut row_means = 0;
+        let level = independent::calculate(&file, &mut [0; CELLS], &mut row_means).expect("an accepted file");
         let asked = [file[3].into(), level, file[4].into()];
-        let mut case = Case { name, file, asked, expected: [0; 3] };
+        let mut case = Case { name, file, asked, expected: [0; 3], row_means };
         case.expected = case.left(independent::remainders);
         case
     }
@@ -56,7 +58,7 @@ impl Case {
 impl timing::Case for Case {
     const LINES: usize = LINES.len();
 
-    /// The remainders are compared, or the level.
+    /// The remainders are compared, or the level and the number of row means.
     fn time(&self, number: usize, calls: u32) -> f64 {
         let (name, line) = LINES[number];
         match line {
@@ -67,12 +69,14 @@ impl timing::Case for Case {
                 spent
             }
             Line::Moments => {
-                let mut cells = [0; CELLS];
+                let (mut cells, mut row_means) = ([0; CELLS], 0);
                 let mut answer = Err(0);
                 let spent = timing::microseconds(calls, || {
-                    answer = library::calculate(black_box(&self.file), black_box(&mut cells));
+                    let taken = black_box(&mut row_means);
+                    answer = library::calculate(black_box(&self.file), black_box(&mut cells), taken);
                 });
                 assert_eq!(answer, Ok(self.asked[1]), "{name}");
+                assert_eq!(row_means, self.row_means, "{name}: row means");
                 spent
             }
         }

@@ -5,7 +5,7 @@ use crate::{independent, library, same, wide, CELLS};
 use std::hint::black_box;
 use std::path::Path;
 
-type Series = fn(&[u8], &[u32], &mut [u64], &mut [u64]) -> Result<u64, u8>;
+type Series = fn(&[u8], &[u32], &mut [u64], &mut [u64], &mut u64) -> Result<u64, u8>;
 
 /// Times in each list.
 const TIMES: usize = 8;
@@ -31,15 +31,17 @@ const WIDE: usize = 2;
 const SINGLES: usize = 3;
 const LAST: usize = 4;
 
-/// A level and a block of cells for each time of a list.
+/// A level and a block of cells for each time of a list, and the number of row means of each single call, or in the first
+/// place that of the one call with the list.
 struct Filled {
     levels: [u64; TIMES],
     cells: [u64; TIMES * CELLS],
+    row_means: [u64; TIMES],
 }
 
 impl Filled {
     fn zeros() -> Filled {
-        Filled { levels: [0; TIMES], cells: [0; TIMES * CELLS] }
+        Filled { levels: [0; TIMES], cells: [0; TIMES * CELLS], row_means: [0; TIMES] }
     }
 }
 
@@ -64,12 +66,13 @@ impl Case {
         case
     }
 
-    /// The levels and blocks of single calls, by the independent version.
+    /// The levels, blocks and row means of single calls, by the independent version.
     fn expect(&self) -> Filled {
         let mut filled = Filled::zeros();
         for (k, file) in self.singles.iter().enumerate() {
             let cells = &mut filled.cells[k * self.block()..];
-            filled.levels[k] = independent::calculate(file, cells).expect("an accepted file");
+            let answer = independent::calculate(file, cells, &mut filled.row_means[k]);
+            filled.levels[k] = answer.expect("an accepted file");
         }
         filled
     }
@@ -83,14 +86,16 @@ impl Case {
     }
 
     fn run_list(&self, series: Series, filled: &mut Filled) -> Result<u64, u8> {
-        let Filled { levels, cells } = filled;
-        series(black_box(&self.file), black_box(&self.list), black_box(levels), black_box(cells))
+        let Filled { levels, cells, row_means } = filled;
+        let taken = &mut row_means[0];
+        series(black_box(&self.file), black_box(&self.list), black_box(levels), black_box(cells), black_box(taken))
     }
 
     fn run_singles(&self, first: usize, filled: &mut Filled) {
         for k in first..TIMES {
             let cells = &mut filled.cells[k * self.block()..];
-            let answer = library::calculate(black_box(&self.singles[k]), black_box(cells));
+            let taken = &mut filled.row_means[k];
+            let answer = library::calculate(black_box(&self.singles[k]), black_box(cells), black_box(taken));
             filled.levels[k] = answer.expect("an accepted file");
         }
     }
@@ -104,6 +109,17 @@ impl Case {
         let cell = first * self.block();
         assert_eq!(filled.levels[first..], self.expected.levels[first..], "{name}: levels");
         assert!(filled.cells[cell..] == self.expected.cells[cell..], "{name}: cells");
+        match line {
+            Line::List(_) => assert_eq!(filled.row_means[0], self.most_row_means(), "{name}: row means"),
+            Line::Singles(_) => {
+                assert_eq!(filled.row_means[first..], self.expected.row_means[first..], "{name}: row means")
+            }
+        }
+    }
+
+    /// Those of the largest level, which one call with the list takes.
+    fn most_row_means(&self) -> u64 {
+        self.expected.row_means.into_iter().max().expect("a time")
     }
 
     fn states(&self) -> usize {
@@ -124,7 +140,7 @@ impl Case {
 impl timing::Case for Case {
     const LINES: usize = LINES.len();
 
-    /// 8 single calls count as one. The levels and the cells are compared.
+    /// 8 single calls count as one. The levels, the cells and the numbers of row means are compared.
     fn time(&self, line: usize, calls: u32) -> f64 {
         let mut filled = Filled::zeros();
         let spent = timing::microseconds(calls, || self.run(line, &mut filled));

@@ -5,7 +5,7 @@ use crate::{every, independent, library, same, wide, CELLS};
 use std::hint::black_box;
 use std::path::Path;
 
-type Calculation = fn(&[u8], &mut [u64]) -> Result<u64, u8>;
+type Calculation = fn(&[u8], &mut [u64], &mut u64) -> Result<u64, u8>;
 
 /// The library first, then the versions in Rust.
 const LINES: [(&str, Calculation); 5] = [
@@ -23,15 +23,16 @@ struct Case {
     file: Vec<u8>,
     level: u64,
     cells: [u64; CELLS],
+    row_means: u64,
 }
 
 impl Case {
     fn read(path: &Path) -> Case {
         let name = path.file_stem().expect("a file's name").to_string_lossy().into_owned();
         let file = std::fs::read(path).expect("a model file");
-        let mut cells = [0; CELLS];
-        let level = independent::calculate(&file, &mut cells).expect("an accepted file");
-        Case { name, file, level, cells }
+        let (mut cells, mut row_means) = ([0; CELLS], 0);
+        let level = independent::calculate(&file, &mut cells, &mut row_means).expect("an accepted file");
+        Case { name, file, level, cells, row_means }
     }
 
     fn states(&self) -> u64 {
@@ -52,16 +53,17 @@ impl Case {
 impl timing::Case for Case {
     const LINES: usize = LINES.len();
 
-    /// The answer and the cells are compared.
+    /// The answer, the cells and the number of row means are compared.
     fn time(&self, line: usize, calls: u32) -> f64 {
         let (name, calculation) = LINES[line];
-        let mut cells = [0; CELLS];
+        let (mut cells, mut row_means) = ([0; CELLS], 0);
         let mut answer = Err(0);
         let spent = timing::microseconds(calls, || {
-            answer = calculation(black_box(&self.file), black_box(&mut cells));
+            answer = calculation(black_box(&self.file), black_box(&mut cells), black_box(&mut row_means));
         });
         assert_eq!(answer, Ok(self.level), "{name}");
         assert_eq!(cells, self.cells, "{name}");
+        assert_eq!(row_means, self.row_means, "{name}: row means");
         spent
     }
 }
