@@ -3,23 +3,26 @@
 with lists of times, with a state, n and r, of their moves to the other version, and of practice files, as theorems.
 
     python3 tests/definitions/try.py             every statement must be proved
-    python3 tests/definitions/try.py --wrong     one number of each kind in a case is altered; each must be refused
+    python3 tests/definitions/try.py --wrong     one number of each kind in a case is altered, an answer's count of row
+                                                 means to one more, one less and N × M; each must be refused
     --seed N    other files and numbers        --keep    leave the scratch crate, and say where it stands
 
-Each file is a theorem three times: what a call answers (the level, or the refusal's number), all cells after
-the call (also those past the moments and start figures, which stay), and the bytes of the printed sheet. Each file with
-a list of times (document 02, S-3) is one three times too: what the list's table answers, all level cells and all block
-cells after the call (also those past the last level and block, which stay). A fourth says which bytes the file has with
-the list's last time in the place of its own, where the list is accepted or row 12 stops it. Each file with a state,
-n and r (S-4) is one four times: what the call answers (the rests of V, W and U, none, or the refusal's number), and
-each of the three numbers after the call (which stay where no rests are given). Where they are given, a fifth says the
-quotients V, W and U. Each move of a file (S-5) is one twice: what the call answers (the count of bytes, or the refusal's
-number), and all bytes after the call (also those past the moved file, which stay). Where it is accepted, a third says the
-moved file. Each practice file (S-6), from M, R and a seed number, is one twice likewise; where it is accepted, a third
-says the file that is dealt, and a fourth its level, with M × R cells. The numbers are the reference's. The theorems stand
-in a scratch crate outside the repository, which cites crates/definitions and is checked by `rt check DIR`. A refusal
-counts only where the prover names the altered statement and says that its two sides differ, and for each kind of number
-it must have shown the right and the altered one side by side.
+Each file is a theorem four times: what a call answers (the level with the count of row means of document 02, S-8, or the
+refusal's number), all cells after the call (also those past the moments and start figures, which stay), the number lent
+for the count after the call (which stays after a refusal), and the bytes of the printed sheet. Each file with a list of
+times (S-3) is one four times too: what the call answers (the count of row means, or the refusal's number), all level
+cells and all block cells after the call (also those past the last level and block, which stay), and the number lent for
+the count. A fifth says which bytes the file has with the list's last time in the place of its own, where the list is
+accepted or row 12 stops it. Each file with a state, n and r (S-4) is one four times: what the call answers (the rests of
+V, W and U, none, or the refusal's number), and each of the three numbers after the call (which stay where no rests are
+given). Where they are given, a fifth says the quotients V, W and U. Each move of a file (S-5) is one twice: what the call
+answers (the count of bytes, or the refusal's number), and all bytes after the call (also those past the moved file, which
+stay). Where it is accepted, a third says the moved file. Each practice file (S-6), from M, R and a seed number, is one
+twice likewise; where it is accepted, a third says the file that is dealt, and a fourth its level and count of row means,
+with M × R cells. The numbers are the reference's, which counts the row means one by one as it takes them. The theorems
+stand in a scratch crate outside the repository, which cites crates/definitions and is checked by `rt check DIR`. A
+refusal counts only where the prover names the altered statement and says that its two sides differ, and for each kind of
+number it must have shown the right and the altered one side by side.
 """
 
 import copy
@@ -49,7 +52,8 @@ use mathlib.Core.List.{List, [], _∷_}
 use mathlib.Core.Path.{_≡_, refl}
 use lib.ListN.{length, getD}
 use Rattle.definitions.specs.Chain.{modelOf, chainOf}
-use Rattle.definitions.specs.Rules.{accepted, refused, lastTime}
+use Rattle.definitions.specs.Rules.{accepted, refused, saying, lastTime}
+use Rattle.definitions.specs.Moment.{countAfter}
 use Rattle.definitions.specs.Maybe.{given, none}
 use Rattle.definitions.specs.Remainders.{numberAfter, meanOf, shareOf}
 use Rattle.definitions.specs.Written.{countOf, bytesAfter}
@@ -65,9 +69,9 @@ unfolding {unfolded}
 {name}-{label} = refl
 """
 ANSWER = {
-    "level": "accepted {}",
+    "level": "accepted (record {{ level = {}; means = {} }})",
     "refused": "refused {}",
-    "times": "accepted tt",
+    "times": "accepted {}",
     "given": "accepted (given (record {{ mean = {}; share = {}; mix = {} }}))",
     "none": "accepted none",
     "bytes": "accepted {}",
@@ -77,12 +81,14 @@ LEFT = {
     "calculate": {
         "answer": "outcome {file} (length {cells})",
         "cells": "cellsAfter (outcome {file} (length {cells})) {file} {cells}",
+        "row_means": "countAfter (saying (λ x. x .means) (outcome {file} (length {cells}))) (getD {row_means} 0 0) ∷ []",
         "sheet": "printedSheet {file}",
     },
     "series": {
-        "answer": "seriesJudgement {file} {times} (length {levels}) (length {cells})",
-        "levels": "levelsAfter (seriesJudgement {file} {times} (length {levels}) (length {cells})) {file} {times} {levels}",
-        "cells": "blocksAfter (seriesJudgement {file} {times} (length {levels}) (length {cells})) {file} {times} {cells}",
+        "answer": "seriesOutcome {file} {times} (length {levels}) (length {cells})",
+        "levels": "levelsAfter (seriesOutcome {file} {times} (length {levels}) (length {cells})) {file} {times} {levels}",
+        "cells": "blocksAfter (seriesOutcome {file} {times} (length {levels}) (length {cells})) {file} {times} {cells}",
+        "row_means": "countAfter (seriesOutcome {file} {times} (length {levels}) (length {cells})) (getD {row_means} 0 0) ∷ []",
         "file": "withTime {file} (lastTime {times})",
     },
     "remainders": {
@@ -245,11 +251,16 @@ def lent(rng, count):
     return [rng.randint(1, 99) for _ in range(count)]
 
 
+def lent_count(rng):
+    """A number lent for the count of row means, above every count of these files."""
+    return [rng.randint(1_000, 9_999)]
+
+
 def file_cases(rng, accepted, refused, refused_2):
     """Every file with its cells: two more than its figures need; for 13, and for 12 and 16 before it, less than needed,
     of version 2 also just as many as its moments need."""
     def case(name, rule, file, count):
-        return Case("calculate", name, rule, dict(file=file, cells=lent(rng, count)))
+        return Case("calculate", name, rule, dict(file=file, cells=lent(rng, count), row_means=lent_count(rng)))
     result = [case(name, 0, file, inputs.need(file) + 2) for name, file in accepted.items()]
     result += [case(f"rule-{rule}-{place}", rule, file, 4) for place, (rule, file) in enumerate(refused)]
     result += [case(f"start-rule-{rule}-{place}", rule, file, 8) for place, (rule, file) in enumerate(refused_2)]
@@ -312,7 +323,8 @@ def list_cases(rng, files, stopped, stopped_2):
     """Every list with its file and its cells. Those of an accepted list are as many as needed, or one or two more, and its
     file mostly has a time of its own that the list has not."""
     def case(name, rule, file, times, levels, cells):
-        return Case("series", f"list-{name}", rule, dict(file=file, times=times, levels=lent(rng, levels), cells=lent(rng, cells)))
+        slices = dict(levels=lent(rng, levels), cells=lent(rng, cells))
+        return Case("series", f"list-{name}", rule, dict(file=file, times=times, **slices, row_means=lent_count(rng)))
     result = []
     for place, (name, count) in enumerate(TIMES.items()):
         file, more = files[name], (place + 2) % 3
@@ -501,7 +513,8 @@ LONG = {"most-jumps", "move-2-eight-states", "move-1-eight-states"}
 Fact = namedtuple("Fact", "case label part value")
 
 # The kinds of number in an answer, by its word, and in the parts that always have the same kinds: each with the places
-# where it stands. An answer is a word and numbers; of the file with another time, one of the time's bytes is altered.
+# where it stands. An answer is a word and numbers; of the file with another time, one of the time's bytes is altered. The
+# count of row means in an answer is altered by `other_counts`.
 KINDS = {
     "refused": {"rule": [1]},
     "level": {"level": [1]},
@@ -523,7 +536,9 @@ def right_facts(case):
     answer = getattr(calculator, case.call)(**given)
     if {"refused": answer[1], "none": "none"}.get(answer[0], 0) != case.rule:
         sys.exit(f"try.py: {case.name} is answered {answer}: the case does not show what it is for")
-    values = {"answer": answer, **{part: given[part] for part in ("levels", "cells", *RESTS, "out") if part in given}}
+    values = {"answer": answer, **{part: given[part] for part in ("levels", "cells", "row_means", *RESTS, "out") if part in given}}
+    if "row_means" in given:
+        values["answer"] = with_count(answer, given["row_means"])
     if case.call == "calculate":
         values["sheet"] = list(calculator.sheet(given["file"]))
     elif case.call == "series" and case.rule in (0, 12):
@@ -531,12 +546,24 @@ def right_facts(case):
     elif case.call == "practice" and answer[0] == "bytes":
         M, R = given["states"], given["highest"]
         file = calculator.dealt(M, R, given["seed"])
-        values.update(dealt=list(file), level=calculator.outcome(file, M * R))
+        values.update(dealt=list(file), level=run_answer(file, M * R))
     elif answer[0] == "bytes":
         values["moved"] = given["out"][:answer[1]]
     elif answer[0] == "given":
         values.update(given_values(**{each: given[each] for each in ("file", *inputs.NUMBERS)}))
     return [Fact(case, part, part, value) for part, value in values.items()]
+
+
+def with_count(answer, row_means):
+    """The answer of a run with the count of row means that it gave: behind the level, or in the place of the number of
+    times, which the definitions do not answer. A refusal has none."""
+    return {"level": (*answer, *row_means), "times": ("times", *row_means)}.get(answer[0], answer)
+
+
+def run_answer(file, cells):
+    """That of an accepted file, lent so many cells."""
+    row_means = [0]
+    return with_count(calculator.calculate(file, [0] * cells, row_means), row_means)
 
 
 def given_values(file, state, n, r):
@@ -550,7 +577,9 @@ def filled_count(case, part):
     """How many numbers of a part a call fills."""
     if case.rule:
         return 0
-    return inputs.rooms(case.call, case.given)[1] if part in ("cells", "out") else len(case.given.get("times", [1]))
+    if part == "levels":
+        return len(case.given["times"])
+    return inputs.rooms(case.call, case.given)[1] if part in ("cells", "out") else 1
 
 
 def kinds(fact):
@@ -577,7 +606,7 @@ def kinds(fact):
     if part == "cells":
         starts = [place for place in filled if place % inputs.need(file) >= file[3] * file[4]]
         return [("moment", [place for place in filled if place not in starts]), ("start-figure", starts), ("cell-that-stays", stays)]
-    name = {"levels": "level", "out": "byte"}.get(part, part)
+    name = {"levels": "level", "out": "byte", "row_means": "lent-count"}.get(part, part)
     return [(name, filled), (f"{name}-that-stays", stays)]
 
 
@@ -596,6 +625,17 @@ def other_seed(fact):
     return fact._replace(label="seed", value=other), right, wrong
 
 
+def other_counts(fact):
+    """An answer with another count of row means, which stands last in it: one more, one less, and N × M, which is left out
+    where R is 1."""
+    *others, count = fact.value
+    given = fact.case.given
+    R = given["highest"] if fact.case.call == "practice" else given["file"][4]
+    for label, other in (("one-more", count + 1), ("one-less", count - 1), ("N-times-M", count // R)):
+        if other != count:
+            yield fact._replace(label=f"row-means-{label}", value=(*others, other)), count, other
+
+
 def shown(value, place):
     """The number at a place, or the answer's word, as the prover shows it."""
     return "accepted" if value[place] == "times" else value[place]
@@ -611,6 +651,8 @@ def wrong_facts(rng, facts):
                 yield wrong, shown(fact.value, place), shown(wrong.value, place)
         if fact.part == "dealt":
             yield other_seed(fact)
+        if isinstance(fact.value, tuple) and fact.value[0] in ("level", "times"):
+            yield from other_counts(fact)
 
 
 def unfoldable():
