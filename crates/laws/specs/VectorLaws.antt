@@ -7,7 +7,7 @@ use Rattle.definitions.specs.Sums.{sum}
 use Rattle.definitions.specs.Chain.{Chain}
 use Rattle.definitions.specs.Vectors.{ONE, rowTotal, rowMean, rewardShare, mix, nextEntry, firstVectors, nextVectors, U, rowMeans}
 use Rattle.laws.specs.Rounding.{quotient-at-most}
-use Rattle.laws.specs.SumLaws.{sum-same, sum-mono, sum-times}
+use Rattle.laws.specs.SumLaws.{sum-same, sum-mono, sum-times, sum-constant}
 use Rattle.laws.specs.ChainLaws.{SameChain}
 
 -- U(n,0) is ONE everywhere
@@ -116,7 +116,12 @@ pub U-same : (a b : Chain) → SameChain a b → (n r i : ℕ) → i < a .states
 U-same a b e zero = U-same-first a b e
 U-same a b e (suc n) = U-same-next a b e n (U-same a b e n)
 
--- the row means up to n: none for n = 0, one for each state and each r with every n more, and no more than 1,024 × 64 × 8 for the greatest n, M and R
+-- the row means up to N are one for each n from 1 to N, each state and each r
+pub one-for-each : (N M R : ℕ) → rowMeans N M R ≡ sum N (λ n. sum M (λ i. sum R (λ r. 1)))
+unfolding rowMeans
+one-for-each N M R = rw (sum-constant R 1, sum-constant M (R * 1), sum-constant N (M * (R * 1))) (omega arith)
+
+-- none for n = 0, M × R more with every n, and no more than 1,024 × 64 × 8 for the greatest n, M and R
 pub means-none : (M R : ℕ) → rowMeans 0 M R ≡ 0
 unfolding rowMeans
 means-none M R = omega arith

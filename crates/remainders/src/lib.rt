@@ -15,7 +15,7 @@ use definitions::Rests;
 use definitions::Sizes;
 
 // The remainders of U(n,r) at state i, counted from 0, of a chain that stands in arrays: V comes from U(n-1,r), W from U(n,r-1)
-// at i, and U from V and W.
+// at i, and U from V and W. The row means that this takes are counted for nobody.
 fn rests_at(
     sizes: Sizes,
     targets: &[u8],

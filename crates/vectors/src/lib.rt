@@ -62,7 +62,7 @@ pub fn mix(n: u64, r: u64, v: u64, w: u64) -> Division
 }
 
 // U(n,r) of U(n-1,r), before, and U(n,r-1), same: at the states, and 0 past them. The three remainders are dropped. Each row
-// mean adds one to what was taken.
+// mean adds one to the count of those taken.
 pub fn step(
     sizes: Sizes,
     targets: &[u8],
@@ -131,8 +131,8 @@ pub fn first_table(sizes: Sizes, rewards: &[u64; 64], table: &mut [[u64; 64]; 9]
     }
 }
 
-// The vectors of n in the place of those of n - 1: R steps, and the row means that they take. Row r is read as U(n-1,r) and
-// becomes U(n,r); the row before it is U(n,r-1) by then.
+// The vectors of n in the place of those of n - 1: R steps, which add their row means to the count. Row r is read as
+// U(n-1,r) and becomes U(n,r); the row before it is U(n,r-1) by then.
 pub fn next_table(
     sizes: Sizes,
     targets: &[u8],
@@ -167,7 +167,7 @@ pub fn next_table(
     }
 }
 
-// The vectors of n, in a table of zeros: row r becomes U(n,r).
+// The vectors of n, in a table of zeros: row r becomes U(n,r). The row means that they take are counted for nobody.
 pub fn table_at(
     sizes: Sizes,
     targets: &[u8],
