@@ -53,7 +53,8 @@ extern "C" {
  *   KULDREPSO_REFUSED + k   where row k is the first that holds. Every cell is as it was, and so is *row_means.
  *
  * How long the series can be is known before it begins: N is at most 2 * m + 51 (S-8), where m is the expected jump count,
- * rounded down: E times the file's time, over 1,000,000.
+ * rounded down: E times the file's time, over 1,000,000. E is the largest sum of the rates out of a state, or 1 where all
+ * are 0.
  *
  * The table, in its order: rows 1 to 8 of document 01's "What stops a file", where 3 holds for any version but 1 and 2, and 6
  * reads the length of the file's version; 16, the weights of a version 2 file do not sum to 1,000,000; rows 9 to 12; 13,

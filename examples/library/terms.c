@@ -20,7 +20,8 @@ static uint64_t number(const uint8_t *at)
 /* E: the largest sum of a row's rates, or 1 where all are 0. */
 static uint64_t uniform_rate(const uint8_t *file)
 {
-    int states = file[3], weights = file[2] == 2 ? states : 0; /* in version 2 the starting weights come first */
+    int states = file[3];
+    int weights = file[2] == 2 ? states : 0; /* in version 2 the starting weights come first */
     const uint8_t *rate = file + 13 + 4 * (weights + states);
     uint64_t most = 1;
     for (int i = 0; i < states; i++) {
@@ -41,14 +42,14 @@ int main(void)
         return 2;
     }
     uint64_t row_means;
-    uint64_t level = kuldrepso_calculate(file, count, cells, KULDREPSO_MOST_CELLS, &row_means);
+    uint64_t answer = kuldrepso_calculate(file, count, cells, KULDREPSO_MOST_CELLS, &row_means);
 
-    if (level >= KULDREPSO_REFUSED) {
-        printf("refused %" PRIu64 "\n", level - KULDREPSO_REFUSED);
+    if (answer >= KULDREPSO_REFUSED) {
+        printf("refused %" PRIu64 "\n", answer - KULDREPSO_REFUSED);
         return fflush(stdout) ? 2 : 1;
     }
-    uint64_t jumps = uniform_rate(file) * number(file + 9) / 1000000;
-    printf("m %" PRIu64 "\nlevel at most %" PRIu64 "\nlevel %" PRIu64 "\nrow means %" PRIu64 "\n", jumps, 2 * jumps + 51, level,
-           row_means);
+    uint64_t m = uniform_rate(file) * number(file + 9) / 1000000;
+    printf("m %" PRIu64 "\nlevel at most %" PRIu64 "\n", m, 2 * m + 51);
+    printf("level %" PRIu64 "\nrow means %" PRIu64 "\n", answer, row_means);
     return fflush(stdout) ? 2 : 0;
 }

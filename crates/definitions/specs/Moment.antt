@@ -91,7 +91,7 @@ abbrev pub countAfter : Answer ℕ → ℕ → ℕ
 countAfter (accepted n) before = n
 countAfter (refused k) before = before
 
--- of an answer: the level is at most 2 × m + 51 (document 02, S-8)
-abbrev pub LevelBounded : Answer Run → List ℕ → Type 0
-LevelBounded (accepted run) s = run .level ≤ lastLevel (jumpMillionths (modelOf s))
+-- of an answer that says a level: it is at most 2 × m + 51 (document 02, S-8)
+abbrev pub LevelBounded : Answer ℕ → List ℕ → Type 0
+LevelBounded (accepted N) s = N ≤ lastLevel (jumpMillionths (modelOf s))
 LevelBounded (refused k) s = Unit {0}

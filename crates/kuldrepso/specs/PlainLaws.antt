@@ -9,7 +9,7 @@ use Rattle.definitions.specs.declared.Rests.{Rests}
 use Rattle.definitions.specs.declared.Run.{Run}
 use Rattle.definitions.specs.Chain.{modelOf}
 use Rattle.definitions.specs.Rules.{Answer, accepted, refused, saying, fileJudgement}
-use Rattle.definitions.specs.Moment.{modelLevel, runOf, outcome}
+use Rattle.definitions.specs.Moment.{modelLevel, runOf, outcome, LevelBounded}
 use Rattle.definitions.specs.Series.{seriesOutcome}
 use Rattle.definitions.specs.Maybe.{Maybe, none, given}
 use Rattle.definitions.specs.Written.{countOf}
@@ -49,6 +49,10 @@ refusal-answer s cells k e = ap (λ (a : Answer Run). plainAnswer (saying level 
 -- so the number tells the level or the refusal: an answer below refusalsFrom is an acceptance, and any other a refusal
 pub outcome-meant : (s : List ℕ) (cells : ℕ) → meant (plainAnswer (saying level (outcome s cells))) ≡ saying level (outcome s cells)
 outcome-meant s cells = answer-meant level (outcome s cells) (λ run e. omega (arith, level-answer s cells run e .2))
+
+-- the level's bound, as one of the number
+pub bound-meant : (s : List ℕ) (cells : ℕ) (a : Answer Run) → outcome s cells ≡ a → LevelBounded (saying level a) s → LevelBounded (meant (plainAnswer (saying level a))) s
+bound-meant s cells a e bound = subst (λ (x : Answer ℕ). LevelBounded x s) (sym (rw e at (outcome-meant s cells))) bound
 
 -- and two calls that answer the same number have the same level or the same refusal
 pub answer-tells : (s : List ℕ) (cells : ℕ) (s' : List ℕ) (cells' : ℕ) → plainAnswer (saying level (outcome s cells)) ≡ plainAnswer (saying level (outcome s' cells')) → saying level (outcome s cells) ≡ saying level (outcome s' cells')

@@ -11,7 +11,7 @@ ghost use Rattle.definitions.specs.Remainders.{remaindersOf, numberAfter, Worke
 ghost use Rattle.definitions.specs.Written.{countOf, bytesAfter, writtenAnswer};
 ghost use Rattle.definitions.specs.Convert.{toVersion2, toVersion1, ThereAndBack};
 ghost use Rattle.definitions.specs.Practice.{practice, DealtWell};
-ghost use Rattle.kuldrepso.specs.Plain.{plainAnswer, givenOrNone, withNumbers};
+ghost use Rattle.kuldrepso.specs.Plain.{plainAnswer, meant, givenOrNone, withNumbers};
 use definitions::Outcome;
 use definitions::Remainders;
 use definitions::Series;
@@ -27,13 +27,13 @@ const GIVEN: u64 = 0;
 const NONE: u64 = 1;
 
 // moments::calculate, with the level N for an acceptance and REFUSED + k for refusal k. An acceptance writes the number of
-// row means to its own number, which else stays.
+// row means to `means`; a refusal leaves it as it was.
 #[no_mangle]
 pub extern "C" fn kuldrepso_calculate(file: &[u8], cells: &mut [u64], means: &mut u64) -> u64
     ensures answer { λ r. ⌜ r ≡ plainAnswer (saying (λ x. x .level) (outcome (now (file .entry)) (length (now (cells .entry))))) ⌝ }
     ensures cells { λ r. ⌜ now (cells .exit) ≡ cellsAfter (outcome (now (file .entry)) (length (now (cells .entry)))) (now (file .entry)) (now (cells .entry)) ⌝ }
     ensures promise { λ r. ⌜ Promised (outcome (now (file .entry)) (length (now (cells .entry)))) (now (file .entry)) (now (cells .exit)) ⌝ }
-    ensures bounded { λ r. ⌜ LevelBounded (outcome (now (file .entry)) (length (now (cells .entry)))) (now (file .entry)) ⌝ }
+    ensures bounded { λ r. ⌜ LevelBounded (meant r) (now (file .entry)) ⌝ }
     ensures means { λ r. ⌜ now (means .exit) ≡ countAfter (saying (λ x. x .means) (outcome (now (file .entry)) (length (now (cells .entry))))) (now (means .entry)) ⌝ }
 {
     match moments::calculate(file, cells) {
@@ -46,7 +46,7 @@ pub extern "C" fn kuldrepso_calculate(file: &[u8], cells: &mut [u64], means: &mu
 }
 
 // moments::series, with the number of times for an acceptance and REFUSED + k for refusal k. An acceptance writes the number
-// of row means to its own number, which else stays.
+// of row means to `means`; a refusal leaves it as it was.
 #[no_mangle]
 pub extern "C" fn kuldrepso_series(
     file: &[u8],

@@ -12,7 +12,7 @@ use Rattle.definitions.specs.Moment.{modelLevel}
 use Rattle.definitions.specs.Maybe.{none, given}
 use Rattle.definitions.specs.Remainders.{meanOf, meanDividend, shareOf, shareDividend, mixDividend, restsAt, anyOutside, restsOf, remaindersOf, Worked, WorkedOut}
 use Rattle.laws.specs.Rounding.{divides}
-use Rattle.laws.specs.RuleLaws.{other-value}
+use Rattle.laws.specs.RuleLaws.{also-refused, also-accepted}
 use Rattle.laws.specs.RowLaws.{neither, in-range}
 use Rattle.laws.specs.Acceptance.{AcceptedModel, accepted-model}
 use Rattle.laws.specs.ChainLaws.{SameChain}
@@ -69,11 +69,11 @@ rests-given m state n r h = rw h
 -- the file's refusal comes before all else
 pub remainders-refused : (s : List ℕ) (state n r k : ℕ) → fileJudgement 1 2 s ≡ refused k → remaindersOf s state n r ≡ refused k
 unfolding remaindersOf fileJudgement
-remainders-refused s state n r k e = other-value (fileRows 1 2 s) (tt {0}) (restsOf (modelOf s) state n r) ∙ rw e refl
+remainders-refused s state n r k e = also-refused (fileRows 1 2 s) (tt {0}) (restsOf (modelOf s) state n r) k e
 
 pub remainders-accepted : (s : List ℕ) (state n r : ℕ) → fileJudgement 1 2 s ≡ accepted tt → remaindersOf s state n r ≡ accepted (restsOf (modelOf s) state n r)
 unfolding remaindersOf fileJudgement
-remainders-accepted s state n r e = other-value (fileRows 1 2 s) (tt {0}) (restsOf (modelOf s) state n r) ∙ rw e refl
+remainders-accepted s state n r e = also-accepted (fileRows 1 2 s) (tt {0}) tt (restsOf (modelOf s) state n r) e
 
 -- state, n and r of remainders that are given are within their limits
 pub record Inside (m : Model) (state n r : ℕ) : Type 0 where

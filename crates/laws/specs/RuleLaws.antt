@@ -51,7 +51,7 @@ in-parts (row ∷ later) u a b =
     ap (pick (row .1) (refused (row .0))) (in-parts later u a b) ∙ row-then (row .1) (row .0) (firstHeld later a) (firstHeld u b)
 
 -- with another value on acceptance a table refuses the same
-pub other-value : {A B : Type 0} (t : Rows) (a : A) (b : B) → firstHeld t b ≡ andThen (firstHeld t a) (accepted b)
+other-value : {A B : Type 0} (t : Rows) (a : A) (b : B) → firstHeld t b ≡ andThen (firstHeld t a) (accepted b)
 other-value t a b = rw append-nil at (in-parts t [] a b) ∙ (unfold firstHeld in refl)
 
 -- so one table refuses, or accepts, whatever it returns

@@ -6,7 +6,7 @@ ghost use lib.ListN.{length, getD};
 ghost use Rattle.definitions.specs.Sums.{over};
 ghost use Rattle.definitions.specs.File.{stateCount};
 ghost use Rattle.definitions.specs.Chain.{modelOf};
-ghost use Rattle.definitions.specs.Rules.{accepted};
+ghost use Rattle.definitions.specs.Rules.{accepted, saying};
 ghost use Rattle.definitions.specs.Moment.{runOf, outcome, answerOf, cellsAfter, LevelBounded};
 ghost use Rattle.definitions.specs.Promise.{Promised};
 ghost use Rattle.definitions.specs.Series.{meansOfAll, seriesOutcome, seriesAnswer, levelsAfter, blocksAfter, AreRuns, SeriesPromised, LevelsBounded};
@@ -153,7 +153,7 @@ pub fn calculate(file: &[u8], cells: &mut [u64]) -> Outcome
     ensures outcome { λ o. ⌜ answerOf o ≡ outcome (now (file .entry)) (length (now (cells .entry))) ⌝ }
     ensures cells { λ o. ⌜ now (cells .exit) ≡ cellsAfter (answerOf o) (now (file .entry)) (now (cells .entry)) ⌝ }
     ensures promise { λ o. ⌜ Promised (answerOf o) (now (file .entry)) (now (cells .exit)) ⌝ }
-    ensures bounded { λ o. ⌜ LevelBounded (answerOf o) (now (file .entry)) ⌝ }
+    ensures bounded { λ o. ⌜ LevelBounded (saying (λ x. x .level) (answerOf o)) (now (file .entry)) ⌝ }
 {
     let judgement = refusals::judge(file, cells.len());
     match judgement {

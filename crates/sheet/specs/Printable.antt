@@ -20,7 +20,7 @@ pub record Shape (M R block : ℕ) (cells : List ℕ) : Type 0 where
   pub rows : block ≤ (M + 1) * R
   pub filled : block ≤ length cells
 
--- a level is printed with the figures of its cells, and a refusal asks nothing
+-- a run is printed with the figures of its cells, and a refusal asks nothing
 abbrev pub Printable : Answer Run → ℕ → ℕ → ℕ → List ℕ → Type 0
 Printable (accepted run) M R block cells = Shape M R block cells
 Printable (refused k) M R block cells = Unit

@@ -28,7 +28,7 @@ returns-2 c =
     let run = c .before .before .fill-own .ensures .0 in
     let after = c .before .before .fill-own .ensures .1 in
     let promised = subst (λ (x : Run). Promised (accepted x) s (cellsAfter (accepted x) s cells)) (sym run) (demand3 s cells passed) in
-    let bounded = subst (λ (x : Run). LevelBounded (accepted x) s) (sym run) (level-bounded (modelOf s) (accepted-file s (length cells) passed .model .limits)) in
+    let bounded = subst (λ (x : Run). LevelBounded (accepted (x .level)) s) (sym run) (level-bounded (modelOf s) (accepted-file s (length cells) passed .model .limits)) in
     (ap accepted run ∙ sym (outcome-accepted s (length cells) passed), (after, (rw after promised, bounded)))
 
 pub calculate-spec : {M : Type 1} → statement M

@@ -1,8 +1,7 @@
 -- `remainders::rests_at` meets its contract: each division is that of the vectors. Assumes nothing.
-use Prim.Native.Nat.{ℕ, _+_, _-_, _*_, _/_, _%_, _≤_}
+use Prim.Native.Nat.{ℕ, _+_, _-_, _/_, _%_}
 use mathlib.Core.List.{List, []}
 use mathlib.Core.Path.{_≡_, refl, ap, ap₂, _∙_}
-use native.Mathlib.Nat.{mul-le-mul}
 use native.Mathlib.Omega.{arith}
 use borrow.Author.Needs.{needs}
 use lib.ListN.{getD}
@@ -15,6 +14,7 @@ use Rattle.laws.specs.Rounding.{quotient, remainder}
 use Rattle.laws.specs.ChainLaws.{itself}
 use Rattle.laws.specs.ArrayLaws.{zeros, entryOf}
 use Rattle.laws.specs.VectorLaws.{rowTotal-same}
+use Rattle.laws.specs.MomentLaws.{count-max}
 use Rattle.laws.specs.RemainderLaws.{same-rests}
 use Rattle.vectors.specs.Ready.{StepReady}
 use Rattle.vectors.specs.ReadyLaws.{row-ready, mix-ready}
@@ -78,8 +78,7 @@ table-at-requires c κs =
 next-table-requires : tie.Need-next-table-requires
 next-table-requires c κs =
     let given = c .before .before .before .before .before .before .pre in
-    let room : c .before .before .before .before .before .before .args .sizes .states * c .before .before .before .before .before .before .args .sizes .highest ≤ 512 = mul-le-mul {n₂ = 64} {m₂ = 8} (given .ready .rewards .states-max) (given .highest-max) in
-    ((given .ready, given .highest-max, omega arith, omega arith, omega (arith, room)), c .before .before .table-at .ensures)
+    ((given .ready, given .highest-max, omega arith, omega arith, omega (arith, count-max _ _ 64 (given .ready .rewards .states-max) (given .highest-max))), c .before .before .table-at .ensures)
 
 row-mean-requires : tie.Need-row-mean-requires
 row-mean-requires c κs =
