@@ -47,6 +47,20 @@ atTime m T =
       transition = m .transition;
     }
 
+-- the model m with the reward rate x of state i in the place of its own (document 02, S-9)
+abbrev pub atReward : Model → ℕ → ℕ → Model
+atReward m i x =
+    record {
+      states = m .states;
+      highest = m .highest;
+      tolerance = m .tolerance;
+      time = m .time;
+      distributions = m .distributions;
+      start = m .start;
+      reward = λ j. pick (eqb j i) x (m .reward j);
+      transition = m .transition;
+    }
+
 -- the rate from i to another state j, and 0 at j = i, which the file does not hold
 unfoldable pub jumpRate : Model → ℕ → ℕ → ℕ
 jumpRate m i j = pick (eqb j i) 0 (m .transition i j)

@@ -55,6 +55,10 @@ rewardsAt s = weightsAt + 4 * (distributions s * stateCount s)
 abbrev pub rewardField : List ℕ → ℕ → ℕ
 rewardField s i = big 4 s (rewardsAt s + 4 * i)
 
+-- the file s with the reward rate x of state i in the place of its own (document 02, S-9)
+unfoldable pub withReward : List ℕ → ℕ → ℕ → List ℕ
+withReward s i x = sets s (rewardsAt s + 4 * i) (bytesOf 4 x)
+
 -- where row i of the rates starts: after M rewards and i rows of M − 1 rates
 abbrev pub rowAt : List ℕ → ℕ → ℕ
 rowAt s i = rewardsAt s + 4 * stateCount s + 4 * (stateCount s - 1) * i

@@ -17,6 +17,7 @@ pub mod Fraction
 pub mod Average
 pub mod Promise
 pub mod Series
+pub mod Order
 pub mod Remainders
 pub mod Written
 pub mod Fields

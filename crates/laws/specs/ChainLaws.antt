@@ -1,9 +1,10 @@
--- The starting distributions that a file holds; the uniformized chain: each row of c sums to E, f ≤ F; and chains that agree at their states.
+-- The starting distributions that a file holds; the uniformized chain: each row of c sums to E, f ≤ F; chains that agree at their states, and chains
+-- of which one is no lower.
 use Prim.Native.Nat.{ℕ, _+_, _*_, _-_, _≤_, _<_}
 use native.Mathlib.Nat.{mul-le-mul}
 use native.Mathlib.Omega.{arith}
 use native.Mathlib.Decide.{ℕ-discrete}
-use mathlib.Core.Path.{_≡_, refl, _∙_}
+use mathlib.Core.Path.{_≡_, refl, sym, _∙_}
 use mathlib.Core.List.{List}
 use lib.ListN.{getD}
 use lib.Dec.{ltb}
@@ -79,3 +80,32 @@ pub record SameChain (a b : Chain) : Type 0 where
 
 pub itself : (ch : Chain) → SameChain ch ch
 itself ch = record { states = refl; rate = refl; largestReward = refl; entry = λ i j li lj. refl; reward = λ i l. refl }
+
+pub the-other-way : (a b : Chain) → SameChain a b → SameChain b a
+the-other-way a b e =
+    record {
+      states = sym (e .states);
+      rate = sym (e .rate);
+      largestReward = sym (e .largestReward);
+      entry = λ i j li lj. sym (e .entry i j (omega (arith, e .states)) (omega (arith, e .states)));
+      reward = λ i l. sym (e .reward i (omega (arith, e .states)));
+    }
+
+-- chain b has no lower entries of c and no lower rewards than chain a; M, E and F are the same
+pub record Raised (a b : Chain) : Type 0 where
+  pub states : a .states ≡ b .states
+  pub rate : a .rate ≡ b .rate
+  pub largestReward : a .largestReward ≡ b .largestReward
+  pub entry : (i j : ℕ) → i < a .states → j < a .states → a .entry i j ≤ b .entry i j
+  pub reward : (i : ℕ) → i < a .states → a .reward i ≤ b .reward i
+
+-- one that agrees with it is one
+pub no-lower : (a b : Chain) → SameChain a b → Raised a b
+no-lower a b e =
+    record {
+      states = e .states;
+      rate = e .rate;
+      largestReward = e .largestReward;
+      entry = λ i j li lj. omega (arith, e .entry i j li lj);
+      reward = λ i l. omega (arith, e .reward i l);
+    }

@@ -25,6 +25,7 @@ pub mod AverageBound
 pub mod MomentLaws
 pub mod StartLaws
 pub mod Demand3
+pub mod OrderLaws
 pub mod SeriesLaws
 pub mod RemainderLaws
 pub mod WrittenLaws

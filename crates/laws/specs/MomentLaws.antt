@@ -1,7 +1,7 @@
 -- The moments: their cells, the last quotient, and the level.
 use Prim.Native.Nat.{ℕ, suc, _+_, _*_, _-_, _/_, _%_, _≤_, _<_}
 use native.Mathlib.Omega.{arith}
-use native.Mathlib.Nat.{mul-le-mul, mul-le-mul-left}
+use native.Mathlib.Nat.{le-antisymm, mul-le-mul, mul-le-mul-left, mul-le-mul-right}
 use mathlib.Core.Path.{_≡_, refl, _∙_, ap, ap₂}
 use mathlib.Core.List.{List}
 use Rattle.definitions.specs.declared.Run.{Run}
@@ -15,9 +15,9 @@ use Rattle.definitions.specs.Weights.{mode, weight, weightSum}
 use Rattle.definitions.specs.Level.{lastLevel}
 use Rattle.definitions.specs.Moment.{term, weighted, lastQuotient, weightedMean, moment, startFigure, cellOf, figureOf, cell, modelLevel, runOf, outcome}
 use Rattle.definitions.specs.Rules.{accepted, refused, rows, judgement}
-use Rattle.laws.specs.Rounding.{quotient-at-most, quotient-below, quotient-unique, remainder-below, remainder-unique, row-of-place, place-in-row, place-below}
-use Rattle.laws.specs.Nearest.{nearest-within, nearest-at-most, nearest-up, nearest-down, nearest-rounds}
-use Rattle.laws.specs.SumLaws.{sum-mono, sum-same}
+use Rattle.laws.specs.Rounding.{quotient-at-most, quotient-mono, quotient-below, quotient-unique, remainder-below, remainder-unique, row-of-place, place-in-row, place-below}
+use Rattle.laws.specs.Nearest.{nearest-within, nearest-at-most, nearest-mono, nearest-up, nearest-down, nearest-rounds}
+use Rattle.laws.specs.SumLaws.{sum-mono}
 use Rattle.laws.specs.RuleLaws.{also-refused, also-accepted}
 use Rattle.laws.specs.ListLaws.{getD-over}
 use Rattle.laws.specs.WeightLaws.{weightSum-min}
@@ -71,12 +71,16 @@ pub weighted-max : (X N : ℕ) (u : ℕ → ℕ) → ((n : ℕ) → n ≤ N → 
 unfolding weighted weightSum
 weighted-max X N u h = sum-mono (suc N) (λ n. term (weight X n) (u n)) (weight X) (λ n l. term-max (weight X n) (u n) (h n (omega arith)))
 
--- equal values up to N have equal weighted means
+-- no lower values up to N have no lower weighted mean, whatever X and N
+pub weighted-mean-mono : (X N : ℕ) (u v : ℕ → ℕ) → ((n : ℕ) → n ≤ N → u n ≤ v n) → weightedMean X u N ≤ weightedMean X v N
+unfolding weightedMean lastQuotient weighted term
+weighted-mean-mono X N u v h =
+    let terms = sum-mono (suc N) (λ n. weight X n * u n / ONE) (λ n. weight X n * v n / ONE) (λ n l. quotient-mono (weight X n * u n) (weight X n * v n) ONE (mul-le-mul-left (weight X n) (h n (omega arith)))) in
+    nearest-mono (weighted X u N * ONE) (weighted X v N * ONE) (weightSum X N) (mul-le-mul-right ONE terms)
+
+-- equal values have equal ones
 pub weighted-mean-same : (X N : ℕ) (u v : ℕ → ℕ) → ((n : ℕ) → n ≤ N → u n ≡ v n) → weightedMean X u N ≡ weightedMean X v N
-unfolding weightedMean weighted
-weighted-mean-same X N u v h =
-    ap (λ (a : ℕ). lastQuotient a (weightSum X N))
-    (sum-same (suc N) (λ n. term (weight X n) (u n)) (λ n. term (weight X n) (v n)) (λ n l. ap (term (weight X n)) (h n (omega arith))))
+weighted-mean-same X N u v h = le-antisymm (weighted-mean-mono X N u v (λ n l. omega (arith, h n l))) (weighted-mean-mono X N v u (λ n l. omega (arith, h n l)))
 
 -- the last quotient is at most ONE where A is at most S
 pub last-max : (A S : ℕ) → 0 < S → A ≤ S → lastQuotient A S ≤ ONE

@@ -10,7 +10,7 @@ use borrow.Author.Tests.{le-leb, lt-leb}
 use Rattle.definitions.specs.Sums.{pick}
 use Rattle.definitions.specs.Division.{Rounds}
 use Rattle.definitions.specs.Moment.{nearest}
-use Rattle.laws.specs.Rounding.{quotient-low, quotient-high, quotient-at-least, quotient-below, quotient-unique, quotient-remainder, remainder-below, divides}
+use Rattle.laws.specs.Rounding.{quotient-low, quotient-high, quotient-at-least, quotient-mono, quotient-below, quotient-unique, quotient-remainder, remainder-below, divides}
 
 -- n is at most one half away from a / c, either way: twice the distance of n × c from a is at most c
 pub record WithinHalf (a c n : ℕ) : Type 0 where
@@ -47,6 +47,11 @@ half-up a c n pos half = nearest-is a c (n + 1) (omega arith) (omega arith)
 pub nearest-at-most : (a k c : ℕ) → 0 < c → a ≤ k * c → nearest a c ≤ k
 unfolding nearest
 nearest-at-most a k c pos h = omega (arith, quotient-below (2 * a + c) (k + 1) (2 * c) (omega arith))
+
+-- a larger number rounds to no smaller one
+pub nearest-mono : (a b c : ℕ) → a ≤ b → nearest a c ≤ nearest b c
+unfolding nearest
+nearest-mono a b c h = quotient-mono (2 * a + c) (2 * b + c) (2 * c) (omega arith)
 
 -- at least the quotient rounded down
 pub nearest-at-least-down : (a c : ℕ) → 0 < c → a / c ≤ nearest a c

@@ -25,6 +25,11 @@ quotient-at-most a k (suc c) h =
 pub quotient-at-least : (a k c : ℕ) → 0 < c → k * c ≤ a → k ≤ a / c
 quotient-at-least a k c pos h = le-div-iff-mul-le pos .1 h
 
+-- a larger number has no smaller quotient
+pub quotient-mono : (a b c : ℕ) → a ≤ b → a / c ≤ b / c
+quotient-mono a b zero h = simp div-zero (omega arith)
+quotient-mono a b (suc c) h = quotient-at-least b (a / suc c) (suc c) (omega arith) (omega (arith, quotient-low a (suc c)))
+
 -- a number of divisors with a rest below the divisor is the quotient
 pub quotient-unique : (a c q r : ℕ) → r < c → q * c + r ≡ a → a / c ≡ q
 quotient-unique a c q r rest whole = div-eq-of-lt-le c (omega arith) (omega arith)

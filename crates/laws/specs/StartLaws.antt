@@ -2,8 +2,8 @@
 -- state's moment.
 use Prim.Native.Nat.{ℕ, zero, suc, _+_, _*_, _/_, _≤_, _<_}
 use native.Mathlib.Omega.{arith}
-use native.Mathlib.Nat.{mul-pos, mul-le-mul-left, mul-le-mul-right, le-of-mul-le-mul-right}
-use mathlib.Core.Path.{_≡_, ap, ap₂}
+use native.Mathlib.Nat.{le-antisymm, mul-pos, mul-le-mul, mul-le-mul-left, mul-le-mul-right, le-of-mul-le-mul-right}
+use mathlib.Core.Path.{_≡_, ap}
 use Rattle.definitions.specs.Sums.{sum}
 use Rattle.definitions.specs.Chain.{Model}
 use Rattle.definitions.specs.Vectors.{ONE}
@@ -12,8 +12,8 @@ use Rattle.definitions.specs.Moment.{moment, startMean, startFigure}
 use Rattle.definitions.specs.Fraction.{Fraction, AtMost, ratio, whole, plus, times, overWhole, total}
 use Rattle.definitions.specs.Average.{million-pos}
 use Rattle.definitions.specs.Promise.{one-pos, ticks, Within}
-use Rattle.laws.specs.Rounding.{quotient-low, quotient-high, quotient-at-most, quotient-unique}
-use Rattle.laws.specs.SumLaws.{sum-same, sum-mono, sum-times, sum-single}
+use Rattle.laws.specs.Rounding.{quotient-low, quotient-high, quotient-at-most, quotient-mono, quotient-unique}
+use Rattle.laws.specs.SumLaws.{sum-mono, sum-times, sum-single}
 
 module _ (M : ℕ) (a p : ℕ → ℕ) where
   -- with all weight on one state the mean is that state's number
@@ -30,10 +30,16 @@ module _ (M : ℕ) (a p : ℕ → ℕ) where
       quotient-at-most (sum M (λ i. a i * p i)) k MILLION
       (omega (arith, sum-mono M (λ i. a i * p i) (λ i. a i * k) (λ i l. mul-le-mul-left (a i) (most i l)), sum-times M k a, ap (λ (x : ℕ). x * k) whole-weight))
 
--- equal weights and equal numbers have equal means
-pub mean-same : (M : ℕ) (a b p q : ℕ → ℕ) → ((i : ℕ) → i < M → a i ≡ b i) → ((i : ℕ) → i < M → p i ≡ q i) → startMean M a p ≡ startMean M b q
+-- no lower weights and no lower numbers have no lower mean, whatever the weights' sum
+pub mean-mono : (M : ℕ) (a b p q : ℕ → ℕ) → ((i : ℕ) → i < M → a i ≤ b i) → ((i : ℕ) → i < M → p i ≤ q i) → startMean M a p ≤ startMean M b q
 unfolding startMean
-mean-same M a b p q weights numbers = ap (λ (n : ℕ). n / MILLION) (sum-same M (λ i. a i * p i) (λ i. b i * q i) (λ i l. ap₂ _*_ (weights i l) (numbers i l)))
+mean-mono M a b p q weights numbers =
+    quotient-mono (sum M (λ i. a i * p i)) (sum M (λ i. b i * q i)) MILLION (sum-mono M (λ i. a i * p i) (λ i. b i * q i) (λ i l. mul-le-mul (weights i l) (numbers i l)))
+
+-- equal ones have equal means
+pub mean-same : (M : ℕ) (a b p q : ℕ → ℕ) → ((i : ℕ) → i < M → a i ≡ b i) → ((i : ℕ) → i < M → p i ≡ q i) → startMean M a p ≡ startMean M b q
+mean-same M a b p q weights numbers =
+    le-antisymm (mean-mono M a b p q (λ i l. omega (arith, weights i l)) (λ i l. omega (arith, numbers i l))) (mean-mono M b a q p (λ i l. omega (arith, weights i l)) (λ i l. omega (arith, numbers i l)))
 
 -- with all weight on state i the start figure is that state's moment
 pub start-of-one : (m : Model) (N r i : ℕ) → i < m .states → m .start i ≡ MILLION → ((j : ℕ) → j < m .states → (j ≡ i → ⊥) → m .start j ≡ 0) → startFigure m N r ≡ moment m N r i

@@ -1,14 +1,14 @@
 -- The recurrence's equations as the paper has them, its range, that it reads a chain at its states alone, and the row means that it takes.
 use Prim.Native.Nat.{ℕ, zero, suc, _+_, _*_, _/_, _≤_, _<_}
 use native.Mathlib.Omega.{arith}
-use native.Mathlib.Nat.{mul-le-mul, mul-le-mul-left, mul-le-mul-right, le-trans}
-use mathlib.Core.Path.{_≡_, refl, sym, _∙_, ap, ap₂}
+use native.Mathlib.Nat.{mul-le-mul, mul-le-mul-left, mul-le-mul-right, le-refl, le-trans, le-antisymm}
+use mathlib.Core.Path.{_≡_, refl}
 use Rattle.definitions.specs.Sums.{sum}
 use Rattle.definitions.specs.Chain.{Chain}
 use Rattle.definitions.specs.Vectors.{ONE, rowTotal, rowMean, rewardShare, mix, nextEntry, firstVectors, nextVectors, U, rowMeans}
-use Rattle.laws.specs.Rounding.{quotient-at-most}
-use Rattle.laws.specs.SumLaws.{sum-same, sum-mono, sum-times, sum-constant}
-use Rattle.laws.specs.ChainLaws.{SameChain}
+use Rattle.laws.specs.Rounding.{quotient-high, quotient-at-most, quotient-mono, quotient-below}
+use Rattle.laws.specs.SumLaws.{sum-mono, sum-times, sum-constant}
+use Rattle.laws.specs.ChainLaws.{SameChain, itself, the-other-way, Raised, no-lower}
 
 -- U(n,0) is ONE everywhere
 pub U-zero : (ch : Chain) (n i : ℕ) → U ch n 0 i ≡ ONE
@@ -51,10 +51,9 @@ pub rowMean-bound : (ch : Chain) (v : ℕ → ℕ) (k i : ℕ) → Stochastic ch
 unfolding rowMean
 rowMean-bound ch v k i s l h = quotient-at-most _ k (ch .rate) (omega (arith, row-bound ch v k i s l h))
 
-pub rewardShare-bound : (ch : Chain) (x k i : ℕ) → Stochastic ch → i < ch .states → x ≤ k → rewardShare ch x i ≤ k
+pub rewardShare-bound : (ch : Chain) (x k i : ℕ) → ch .reward i ≤ ch .largestReward → x ≤ k → rewardShare ch x i ≤ k
 unfolding rewardShare
-rewardShare-bound ch x k i s l h =
-    quotient-at-most (ch .reward i * x) k (ch .largestReward) (omega (arith, mul-le-mul (s .reward i l) h))
+rewardShare-bound ch x k i f h = quotient-at-most (ch .reward i * x) k (ch .largestReward) (omega (arith, mul-le-mul f h))
 
 pub mix-bound : (n r v w k : ℕ) → v ≤ k → w ≤ k → mix n r v w ≤ k
 unfolding mix
@@ -63,12 +62,12 @@ mix-bound n r v w k hv hw = quotient-at-most (n * v + r * w) k (n + r) (omega (a
 pub nextEntry-bound : (ch : Chain) (n r : ℕ) (before same : ℕ → ℕ) (k i : ℕ) → Stochastic ch → i < ch .states → ((j : ℕ) → j < ch .states → before j ≤ k) → same i ≤ k → nextEntry ch n r before same i ≤ k
 unfolding nextEntry
 nextEntry-bound ch n r before same k i s l hb hs =
-    mix-bound n r (rowMean ch before i) (rewardShare ch (same i) i) k (rowMean-bound ch before k i s l hb) (rewardShare-bound ch (same i) k i s l hs)
+    mix-bound n r (rowMean ch before i) (rewardShare ch (same i) i) k (rowMean-bound ch before k i s l hb) (rewardShare-bound ch (same i) k i (s .reward i l) hs)
 
 -- U ≤ ONE at every state
 U-bound-first : (ch : Chain) → Stochastic ch → (r i : ℕ) → i < ch .states → U ch 0 r i ≤ ONE
 U-bound-first ch s zero i l = rw U-zero (omega arith)
-U-bound-first ch s (suc r) i l = rw U-first (rewardShare-bound ch (U ch 0 r i) ONE i s l (U-bound-first ch s r i l))
+U-bound-first ch s (suc r) i l = rw U-first (rewardShare-bound ch (U ch 0 r i) ONE i (s .reward i l) (U-bound-first ch s r i l))
 
 U-bound-next : (ch : Chain) → Stochastic ch → (n : ℕ) → ((r j : ℕ) → j < ch .states → U ch n r j ≤ ONE) → (r i : ℕ) → i < ch .states → U ch (suc n) r i ≤ ONE
 U-bound-next ch s n h zero i l = rw U-zero (omega arith)
@@ -80,41 +79,89 @@ pub U-bound : (ch : Chain) → Stochastic ch → (n r i : ℕ) → i < ch .state
 U-bound ch s zero = U-bound-first ch s
 U-bound ch s (suc n) = U-bound-next ch s n (U-bound ch s n)
 
--- the row mean, the reward share and the next entry read a chain at its states alone
+-- every step is monotone: from no lower vectors, on a chain that is no lower, it makes no lower numbers
+rowTotal-mono : (a b : Chain) (v w : ℕ → ℕ) (i : ℕ) → Raised a b → i < a .states → ((j : ℕ) → j < a .states → v j ≤ w j) → rowTotal a v i ≤ rowTotal b w i
+rowTotal-mono a b v w i e l h =
+    le-trans (sum-mono (a .states) (λ j. a .entry i j * v j) (λ j. b .entry i j * w j) (λ j k. mul-le-mul (e .entry i j l k) (h j k)))
+    (rw (e .states) (le-refl _))
+
+pub rowMean-mono : (a b : Chain) (v w : ℕ → ℕ) (i : ℕ) → Raised a b → i < a .states → ((j : ℕ) → j < a .states → v j ≤ w j) → rowMean a v i ≤ rowMean b w i
+unfolding rowMean
+rowMean-mono a b v w i e l h = rw (← e .rate) (quotient-mono (rowTotal a v i) (rowTotal b w i) (a .rate) (rowTotal-mono a b v w i e l h))
+
+pub rewardShare-mono : (a b : Chain) (x y i : ℕ) → Raised a b → i < a .states → x ≤ y → rewardShare a x i ≤ rewardShare b y i
+unfolding rewardShare
+rewardShare-mono a b x y i e l h = rw (← e .largestReward) (quotient-mono (a .reward i * x) (b .reward i * y) (a .largestReward) (mul-le-mul (e .reward i l) h))
+
+pub mix-mono : (n r v w v' w' : ℕ) → v ≤ v' → w ≤ w' → mix n r v w ≤ mix n r v' w'
+unfolding mix
+mix-mono n r v w v' w' hv hw = quotient-mono (n * v + r * w) (n * v' + r * w') (n + r) (omega (arith, mul-le-mul-left n hv, mul-le-mul-left r hw))
+
+pub nextEntry-mono : (a b : Chain) (n r : ℕ) (v w x y : ℕ → ℕ) (i : ℕ) → Raised a b → i < a .states → ((j : ℕ) → j < a .states → v j ≤ w j) → x i ≤ y i → nextEntry a n r v x i ≤ nextEntry b n r w y i
+unfolding nextEntry
+nextEntry-mono a b n r v w x y i e l h q = mix-mono n r _ _ _ _ (rowMean-mono a b v w i e l h) (rewardShare-mono a b (x i) (y i) i e l q)
+
+U-mono-first : (a b : Chain) → Raised a b → (r i : ℕ) → i < a .states → U a 0 r i ≤ U b 0 r i
+U-mono-first a b e zero i l = rw (U-zero a, U-zero b) (le-refl ONE)
+U-mono-first a b e (suc r) i l = rw (U-first a, U-first b) (rewardShare-mono a b (U a 0 r i) (U b 0 r i) i e l (U-mono-first a b e r i l))
+
+U-mono-next : (a b : Chain) → Raised a b → (n : ℕ) → ((r j : ℕ) → j < a .states → U a n r j ≤ U b n r j) → (r i : ℕ) → i < a .states → U a (suc n) r i ≤ U b (suc n) r i
+U-mono-next a b e n h zero i l = rw (U-zero a, U-zero b) (le-refl ONE)
+U-mono-next a b e n h (suc r) i l =
+    rw (U-next a, U-next b)
+    (nextEntry-mono a b (suc n) (suc r) (U a n (suc r)) (U b n (suc r)) (U a (suc n) r) (U b (suc n) r) i e l (h (suc r)) (U-mono-next a b e n h r i l))
+
+-- so a chain that is no lower has no lower U, whatever its rows sum to
+pub U-mono : (a b : Chain) → Raised a b → (n r i : ℕ) → i < a .states → U a n r i ≤ U b n r i
+U-mono a b e zero = U-mono-first a b e
+U-mono a b e (suc n) = U-mono-next a b e n (U-mono a b e n)
+
+-- the row total, the next entry and U read a chain at its states alone: on chains that agree there each is at most the other
 pub rowTotal-same : (a b : Chain) (v w : ℕ → ℕ) (i : ℕ) → SameChain a b → i < a .states → ((j : ℕ) → j < a .states → v j ≡ w j) → rowTotal a v i ≡ rowTotal b w i
 rowTotal-same a b v w i e l h =
-    sum-same (a .states) (λ j. a .entry i j * v j) (λ j. b .entry i j * w j) (λ j k. ap₂ _*_ (e .entry i j l k) (h j k))
-    ∙ ap (λ (n : ℕ). sum n (λ j. b .entry i j * w j)) (e .states)
-
-rowMean-same : (a b : Chain) (v w : ℕ → ℕ) (i : ℕ) → SameChain a b → i < a .states → ((j : ℕ) → j < a .states → v j ≡ w j) → rowMean a v i ≡ rowMean b w i
-unfolding rowMean
-rowMean-same a b v w i e l h = ap₂ _/_ (rowTotal-same a b v w i e l h) (e .rate)
-
-rewardShare-same : (a b : Chain) (x i : ℕ) → SameChain a b → i < a .states → rewardShare a x i ≡ rewardShare b x i
-unfolding rewardShare
-rewardShare-same a b x i e l = ap₂ _/_ (ap (λ (f : ℕ). f * x) (e .reward i l)) (e .largestReward)
+    le-antisymm (rowTotal-mono a b v w i (no-lower a b e) l (λ j k. omega (arith, h j k)))
+    (rowTotal-mono b a w v i (no-lower b a (the-other-way a b e)) (omega (arith, e .states)) (λ j k. omega (arith, h j (omega (arith, e .states)))))
 
 pub nextEntry-same : (a b : Chain) (n r : ℕ) (v w x y : ℕ → ℕ) (i : ℕ) → SameChain a b → i < a .states → ((j : ℕ) → j < a .states → v j ≡ w j) → x i ≡ y i → nextEntry a n r v x i ≡ nextEntry b n r w y i
-unfolding nextEntry
 nextEntry-same a b n r v w x y i e l h q =
-    ap₂ (mix n r) (rowMean-same a b v w i e l h) (rewardShare-same a b (x i) i e l ∙ ap (λ (z : ℕ). rewardShare b z i) q)
+    le-antisymm (nextEntry-mono a b n r v w x y i (no-lower a b e) l (λ j k. omega (arith, h j k)) (omega (arith, q)))
+    (nextEntry-mono b a n r w v y x i (no-lower b a (the-other-way a b e)) (omega (arith, e .states)) (λ j k. omega (arith, h j (omega (arith, e .states)))) (omega (arith, q)))
 
-U-same-first : (a b : Chain) → SameChain a b → (r i : ℕ) → i < a .states → U a 0 r i ≡ U b 0 r i
-U-same-first a b e zero i l = rw (U-zero a, U-zero b)
-U-same-first a b e (suc r) i l =
-    U-first a r i ∙ rewardShare-same a b (U a 0 r i) i e l ∙ ap (λ (z : ℕ). rewardShare b z i) (U-same-first a b e r i l) ∙ sym (U-first b r i)
-
-U-same-next : (a b : Chain) → SameChain a b → (n : ℕ) → ((r j : ℕ) → j < a .states → U a n r j ≡ U b n r j) → (r i : ℕ) → i < a .states → U a (suc n) r i ≡ U b (suc n) r i
-U-same-next a b e n h zero i l = rw (U-zero a, U-zero b)
-U-same-next a b e n h (suc r) i l =
-    U-next a n r i
-    ∙ nextEntry-same a b (suc n) (suc r) (U a n (suc r)) (U b n (suc r)) (U a (suc n) r) (U b (suc n) r) i e l (h (suc r)) (U-same-next a b e n h r i l)
-    ∙ sym (U-next b n r i)
-
--- chains that agree at their states have the same U there
 pub U-same : (a b : Chain) → SameChain a b → (n r i : ℕ) → i < a .states → U a n r i ≡ U b n r i
-U-same a b e zero = U-same-first a b e
-U-same a b e (suc n) = U-same-next a b e n (U-same a b e n)
+U-same a b e n r i l = le-antisymm (U-mono a b (no-lower a b e) n r i l) (U-mono b a (no-lower b a (the-other-way a b e)) n r i (omega (arith, e .states)))
+
+-- one more r: where neither V nor W is larger, and W is not above the mix before, the mix is not either. With y that mix, n × v' + (r + 1) × w' is at
+-- most n × v + r × w + y, which is below (n + r) × (y + 1) + (y + 1).
+pub mix-falls : (n r v w v' w' : ℕ) → 0 < n + r → v' ≤ v → w' ≤ w → w' ≤ mix n r v w → mix n (suc r) v' w' ≤ mix n r v w
+unfolding mix
+mix-falls n r v w v' w' pos hv hw hy =
+    let y : ℕ = (n * v + r * w) / (n + r) in
+    let before : n * v + r * w < (y + 1) * (n + r) = quotient-high (n * v + r * w) (n + r) pos in
+    let now : n * v' + suc r * w' < (y + 1) * (n + suc r) = omega (arith, before, mul-le-mul-left n hv, mul-le-mul-left r hw, hy) in
+    omega (arith, quotient-below (n * v' + suc r * w') (y + 1) (n + suc r) now)
+
+-- so is the next entry for r + 1 at most that for r, w', where neither vector before is larger: W is at most what it is a share of
+pub nextEntry-falls : (ch : Chain) (n r : ℕ) (v w v' w' : ℕ → ℕ) (i : ℕ) → ch .reward i ≤ ch .largestReward → i < ch .states → 0 < n + r → ((j : ℕ) → j < ch .states → v' j ≤ v j) → w' i ≤ w i → w' i ≡ nextEntry ch n r v w i → nextEntry ch n (suc r) v' w' i ≤ w' i
+unfolding nextEntry
+nextEntry-falls ch n r v w v' w' i f l pos hv hw here =
+    let same : Raised ch ch = no-lower ch ch (itself ch) in
+    let share : rewardShare ch (w' i) i ≤ w' i = rewardShare-bound ch (w' i) (w' i) i f (le-refl _) in
+    omega
+    (arith, here, mix-falls n r _ _ _ _ pos (rowMean-mono ch ch v' v i same l hv) (rewardShare-mono ch ch (w' i) (w i) i same l hw) (omega (arith, share, here)))
+
+-- U(n,r+1) ≤ U(n,r) at every state
+U-falls-first : (ch : Chain) → Stochastic ch → (r i : ℕ) → i < ch .states → U ch 0 (suc r) i ≤ U ch 0 r i
+U-falls-first ch s r i l = rw U-first (rewardShare-bound ch (U ch 0 r i) (U ch 0 r i) i (s .reward i l) (le-refl _))
+
+U-falls-next : (ch : Chain) → Stochastic ch → (n : ℕ) → ((r j : ℕ) → j < ch .states → U ch n (suc r) j ≤ U ch n r j) → (r i : ℕ) → i < ch .states → U ch (suc n) (suc r) i ≤ U ch (suc n) r i
+U-falls-next ch s n h zero i l = rw (U-zero ch (suc n)) (U-bound ch s (suc n) 1 i l)
+U-falls-next ch s n h (suc r) i l =
+    rw (U-next ch n (suc r) i)
+    (nextEntry-falls ch (suc n) (suc r) (U ch n (suc r)) (U ch (suc n) r) (U ch n (suc (suc r))) (U ch (suc n) (suc r)) i (s .reward i l) l (omega arith) (h (suc r)) (U-falls-next ch s n h r i l) (U-next ch n r i))
+
+pub U-falls : (ch : Chain) → Stochastic ch → (n r i : ℕ) → i < ch .states → U ch n (suc r) i ≤ U ch n r i
+U-falls ch s zero = U-falls-first ch s
+U-falls ch s (suc n) = U-falls-next ch s n (U-falls ch s n)
 
 -- the row means up to N are one for each n from 1 to N, each state and each r
 pub one-for-each : (N M R : ℕ) → rowMeans N M R ≡ sum N (λ n. sum M (λ i. sum R (λ r. 1)))

@@ -38,7 +38,7 @@ module _ {z : Sizes} {a : Listing} {f : List ℕ} {n r : ℕ} {before same : Lis
       record {
         indices = given .indices;
         mean-max = omega (arith, rowMean-bound (arrays z a f) (entryOf before) ONE i (given .ready .stochastic) l (given .before-ticks .below));
-        share-max = omega (arith, rewardShare-bound (arrays z a f) (getD same i 0) ONE i (given .ready .stochastic) l (given .same-ticks .below i l));
+        share-max = omega (arith, rewardShare-bound (arrays z a f) (getD same i 0) ONE i (given .ready .stochastic .reward i l) (given .same-ticks .below i l));
       }
 
 -- f alone, with no c: what the vectors of n = 0 stay in range on

@@ -1,0 +1,43 @@
+-- Document 02, S-9, "Higher moments may not rise": what is promised of the order of the figures that a call leaves, and of those of the same call for the file
+-- with one reward rate raised.
+use Prim.Native.Nat.{ℕ, _+_, _≤_, _<_}
+use mathlib.Core.List.{List}
+use mathlib.Core.Path.{_≡_}
+use lib.ListN.{length, getD}
+use Rattle.definitions.specs.declared.Run.{Run}
+use Rattle.definitions.specs.File.{stateCount, rewardField, withReward}
+use Rattle.definitions.specs.Chain.{Model, modelOf, maxReward}
+use Rattle.definitions.specs.Rules.{Answer, accepted, refused}
+use Rattle.definitions.specs.Moment.{cellOf, outcome, cellsAfter}
+use Rattle.definitions.specs.Series.{block, seriesOutcome, levelsAfter, blocksAfter}
+
+-- in the rows of a block, one for each state and one for the starting distribution where there is one, the figure for r + 1 is at most that for r
+abbrev pub NoRise : Model → List ℕ → Type 0
+NoRise m cells =
+    (i r : ℕ) → i < m .states + m .distributions → 1 ≤ r → r < m .highest → getD cells (cellOf m i (r + 1)) 0 ≤ getD cells (cellOf m i r) 0
+
+-- of an answer: its block has no rise
+abbrev pub NoneRises : Answer Run → List ℕ → List ℕ → Type 0
+NoneRises (accepted run) s cells = NoRise (modelOf s) cells
+NoneRises (refused k) s cells = Unit {0}
+
+-- of an answer for a list of times: no block has one
+abbrev pub NoBlockRises : Answer ℕ → List ℕ → List ℕ → List ℕ → Type 0
+NoBlockRises (accepted n) s times cells = (k : ℕ) → k < length times → NoRise (modelOf s) (block s cells k)
+NoBlockRises (refused k) s times cells = Unit {0}
+
+-- x is a reward rate for state i of the file s: from its own to the largest of the file
+pub record Raises (s : List ℕ) (i x : ℕ) : Type 0 where
+  pub state : i < stateCount s
+  pub from : rewardField s i ≤ x
+  pub to : x ≤ maxReward (modelOf s)
+
+-- the file t answers the run, and of the cells that were lent leaves none below what stands after
+pub record NoLower (t : List ℕ) (run : Run) (before after : List ℕ) : Type 0 where
+  pub same-run : outcome t (length before) ≡ accepted run
+  pub no-lower : (k : ℕ) → getD after k 0 ≤ getD (cellsAfter (accepted run) t before) k 0
+
+-- of an answer: with one reward rate raised the call answers the same run, and leaves no cell lower
+abbrev pub NoneLowered : Answer Run → List ℕ → List ℕ → List ℕ → Type 0
+NoneLowered (accepted run) s before after = (i x : ℕ) → Raises s i x → NoLower (withReward s i x) run before after
+NoneLowered (refused k) s before after = Unit {0}

@@ -1,0 +1,134 @@
+-- Document 02, S-9: the moment for r + 1 is at most that for r, and so is the start figure; and a model with no lower reward rates, the largest being
+-- the same, has no lower figures. Of every model, at every level.
+use Prim.Native.Nat.{ℕ, suc, _+_, _*_, _-_, _/_, _%_, max, _≤_, _<_}
+use native.Mathlib.Omega.{arith}
+use native.Mathlib.Nat.{le-refl, le-antisymm}
+use native.Mathlib.Decide.{decLt, ℕ-discrete}
+use mathlib.Core.Path.{_≡_, refl, sym, _∙_, ap, ap₂}
+use borrow.Author.Tests.{eq-eqb, ne-eqb}
+use Rattle.definitions.specs.Sums.{sum, largest}
+use Rattle.definitions.specs.Chain.{Model, jumpRate, rowSum, uniformRate, c, maxReward, jumpMillionths, chainOf, atReward, blockOf}
+use Rattle.definitions.specs.Vectors.{U}
+use Rattle.definitions.specs.Level.{level}
+use Rattle.definitions.specs.Moment.{moment, startMean, startFigure, figureOf, cell, modelLevel}
+use Rattle.laws.specs.SumLaws.{sum-same, le-largest, largest-le, largest-same}
+use Rattle.laws.specs.ChainLaws.{Raised, reward-le-largest}
+use Rattle.laws.specs.VectorLaws.{U-mono, U-falls}
+use Rattle.laws.specs.Acceptance.{stochastic}
+use Rattle.laws.specs.MomentLaws.{figure-of-state, figure-of-start, state-of-cell, weighted-mean-mono}
+use Rattle.laws.specs.StartLaws.{mean-mono}
+
+-- from each state, whatever the level
+pub moment-falls : (m : Model) (N r i : ℕ) → i < m .states → moment m N (suc r) i ≤ moment m N r i
+unfolding moment
+moment-falls m N r i l = weighted-mean-mono (jumpMillionths m) N _ _ (λ n h. U-falls (chainOf m) (stochastic m) n r i l)
+
+-- whatever the starting weights
+pub start-falls : (m : Model) (N r : ℕ) → startFigure m N (suc r) ≤ startFigure m N r
+unfolding startFigure
+start-falls m N r = mean-mono (m .states) (m .start) (m .start) _ _ (λ i l. le-refl (m .start i)) (λ i l. moment-falls m N r i l)
+
+-- so in every row of a block
+pub figure-falls : (m : Model) (N r i : ℕ) → figureOf m N (suc r) i ≤ figureOf m N r i
+figure-falls m N r i =
+    elim (decLt i (m .states)) [
+      | yes l ↦ rw (figure-of-state m N (suc r) i l, figure-of-state m N r i l) (moment-falls m N r i l)
+      | no h ↦ rw (figure-of-start m N (suc r) i (omega (arith, h)), figure-of-start m N r i (omega (arith, h))) (start-falls m N r)
+    ]
+
+-- model b has no lower reward rates than model a, and none above the largest of a; all else is the same, at the states, and the starting weights where there is a
+-- starting distribution
+pub record RaisedModel (a b : Model) : Type 0 where
+  pub states : a .states ≡ b .states
+  pub highest : a .highest ≡ b .highest
+  pub tolerance : a .tolerance ≡ b .tolerance
+  pub time : a .time ≡ b .time
+  pub distributions : a .distributions ≡ b .distributions
+  pub start : 0 < a .distributions → (i : ℕ) → i < a .states → a .start i ≡ b .start i
+  pub no-lower : (i : ℕ) → i < a .states → a .reward i ≤ b .reward i
+  pub not-past : (i : ℕ) → i < a .states → b .reward i ≤ maxReward a
+  pub transition : (i j : ℕ) → i < a .states → j < a .states → (j ≡ i → ⊥) → a .transition i j ≡ b .transition i j
+
+module _ (a b : Model) (e : RaisedModel a b) where
+  -- F is the same
+  pub largest-kept : maxReward a ≡ maxReward b
+  unfolding maxReward
+  largest-kept =
+      le-antisymm
+      (largest-le (a .states) (maxReward b) (a .reward) (λ i l. omega (arith, e .no-lower i l, le-largest (b .states) (b .reward) i (omega (arith, e .states)))))
+      (largest-le (b .states) (maxReward a) (b .reward) (λ i l. e .not-past i (omega (arith, e .states))))
+
+  -- so are the row sums, E and c
+  jump-kept : (i j : ℕ) → i < a .states → j < a .states → jumpRate a i j ≡ jumpRate b i j
+  unfolding jumpRate
+  jump-kept i j li lj = elim (ℕ-discrete j i) [ yes same ↦ rw (eq-eqb j i same) refl | no other ↦ rw (ne-eqb j i other) (e .transition i j li lj other) ]
+
+  sum-kept : (i : ℕ) → i < a .states → rowSum a i ≡ rowSum b i
+  unfolding rowSum
+  sum-kept i l = sum-same (a .states) (jumpRate a i) (jumpRate b i) (λ j k. jump-kept i j l k) ∙ ap (λ (n : ℕ). sum n (jumpRate b i)) (e .states)
+
+  pub rate-kept : uniformRate a ≡ uniformRate b
+  unfolding uniformRate
+  rate-kept = ap (max 1) (largest-same (a .states) (rowSum a) (rowSum b) sum-kept ∙ ap (λ (n : ℕ). largest n (rowSum b)) (e .states))
+
+  entry-kept : (i j : ℕ) → i < a .states → j < a .states → c a i j ≡ c b i j
+  unfolding c
+  entry-kept i j li lj = elim (ℕ-discrete j i) [ yes same ↦ rw (eq-eqb j i same) (ap₂ _-_ rate-kept (sum-kept i li)) | no other ↦ rw (ne-eqb j i other) (e .transition i j li lj other) ]
+
+  raised-chain : Raised (chainOf a) (chainOf b)
+  raised-chain =
+      record {
+        states = e .states;
+        rate = rate-kept;
+        largestReward = largest-kept;
+        entry = λ i j li lj. omega (arith, entry-kept i j li lj);
+        reward = e .no-lower;
+      }
+
+  -- X and the level
+  pub jumps-kept : jumpMillionths a ≡ jumpMillionths b
+  unfolding jumpMillionths
+  jumps-kept = ap₂ _*_ rate-kept (e .time)
+
+  pub level-kept : modelLevel a ≡ modelLevel b
+  unfolding modelLevel
+  level-kept = ap₂ level jumps-kept (e .tolerance)
+
+  -- no moment is lower, whatever the level
+  pub moment-kept : (N r i : ℕ) → i < a .states → moment a N r i ≤ moment b N r i
+  unfolding moment
+  moment-kept N r i l = rw (← jumps-kept) (weighted-mean-mono (jumpMillionths a) N _ _ (λ n h. U-mono (chainOf a) (chainOf b) raised-chain n r i l))
+
+  -- nor a start figure, where there is a starting distribution
+  pub start-kept : (N r : ℕ) → 0 < a .distributions → startFigure a N r ≤ startFigure b N r
+  unfolding startFigure
+  start-kept N r some =
+      let states : startMean (a .states) (b .start) (moment b N r) ≡ startMean (b .states) (b .start) (moment b N r) = ap (λ (n : ℕ). startMean n (b .start) (moment b N r)) (e .states) in
+      omega (arith, states, mean-mono (a .states) (a .start) (b .start) (moment a N r) (moment b N r) (λ i l. omega (arith, e .start some i l)) (λ i l. moment-kept N r i l))
+
+  -- so no figure of a block
+  figure-kept : (N r i : ℕ) → i < a .states + a .distributions → figureOf a N r i ≤ figureOf b N r i
+  figure-kept N r i l =
+      elim (decLt i (a .states)) [
+        | yes h ↦ rw (figure-of-state a N r i h, figure-of-state b N r i (omega (arith, e .states))) (moment-kept N r i h)
+        | no h ↦ rw (figure-of-start a N r i (omega (arith, h)), figure-of-start b N r i (omega (arith, h, e .states))) (start-kept N r (omega (arith, h)))
+      ]
+
+  pub cell-kept : (N k : ℕ) → k < blockOf a → cell a N k ≤ cell b N k
+  unfolding cell
+  cell-kept N k l = omega (arith, ap (λ (R : ℕ). figureOf b N (k % R + 1) (k / R)) (e .highest), figure-kept N (k % a .highest + 1) (k / a .highest) (state-of-cell k (a .states + a .distributions) (a .highest) l))
+
+-- the model with one reward rate from its own to the largest is one
+pub one-raised : (m : Model) (i x : ℕ) → m .reward i ≤ x → x ≤ maxReward m → RaisedModel m (atReward m i x)
+one-raised m i x low high =
+    record {
+      states = refl;
+      highest = refl;
+      tolerance = refl;
+      time = refl;
+      distributions = refl;
+      start = λ some j l. refl;
+      no-lower = λ j l. elim (ℕ-discrete j i) [ yes same ↦ rw (eq-eqb j i same) (omega (arith, low, ap (m .reward) same)) | no other ↦ rw (ne-eqb j i other) (le-refl (m .reward j)) ];
+      not-past = λ j l. elim (ℕ-discrete j i) [ yes same ↦ rw (eq-eqb j i same) high | no other ↦ rw (ne-eqb j i other) (reward-le-largest m j l) ];
+      transition = λ j k lj lk other. refl;
+    }
