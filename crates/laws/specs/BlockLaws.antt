@@ -11,6 +11,10 @@ use Rattle.definitions.specs.Sums.{firsts, over, blocks}
 use Rattle.laws.specs.Rounding.{quotient-below, quotient-remainder, remainder-below, row-of-place, place-in-row, place-below}
 use Rattle.laws.specs.ListLaws.{length-firsts, firsts-same, length-over, getD-over, getD-over-past, over-none, over-same, over-kept, over-again}
 
+-- where there is a place in a number of blocks, a block has a size
+pub some-size : (p count size : ℕ) → p < count * size → 0 < size
+some-size p count size h = elim (decLt 0 size) [ yes pos ↦ pos | no q ↦ absurd (let none : size ≡ 0 = omega (arith, q) in omega (arith, rw none at h)) ]
+
 -- the blocks up to block k end by the end of all blocks
 pub block-end : (k count size : ℕ) → k < count → k * size + size ≤ count * size
 block-end k count size h = let most : (k + 1) * size ≤ count * size = mul-le-mul-right size (omega arith) in omega (arith, most)
@@ -74,11 +78,7 @@ module _ {A : Type 0} where
     unfolding blocks
     blocks-same count f g l same =
         over-same (count * size) (λ p. f (p / size) (p % size)) (λ p. g (p / size) (p % size)) l
-        (λ p h. same (p / size) (p % size) (quotient-below p count size h) (remainder-below p size (some p h)))
-      where
-        -- where there is a place there is a size
-        some : (p : ℕ) → p < count * size → 1 ≤ size
-        some p h = elim (decLt 0 size) [ yes pos ↦ pos | no q ↦ absurd (let none : size ≡ 0 = omega (arith, q) in omega (arith, rw none at h)) ]
+        (λ p h. same (p / size) (p % size) (quotient-below p count size h) (remainder-below p size (some-size p count size h)))
 
     -- where f agrees with the list, filling the blocks changes nothing
     pub blocks-kept : (d : A) (count : ℕ) (f : ℕ → ℕ → A) (l : List A) → count * size ≤ length l → ((k c : ℕ) → k < count → c < size → f k c ≡ getD l (k * size + c) d) → blocks size count f l ≡ l

@@ -27,6 +27,7 @@ pub mod StartLaws
 pub mod Demand3
 pub mod OrderLaws
 pub mod SeriesLaws
+pub mod RewardLaws
 pub mod RemainderLaws
 pub mod WrittenLaws
 pub mod MovedLaws

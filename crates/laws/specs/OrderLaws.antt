@@ -7,7 +7,7 @@ use native.Mathlib.Decide.{decLt, ℕ-discrete}
 use mathlib.Core.Path.{_≡_, refl, sym, _∙_, ap, ap₂}
 use borrow.Author.Tests.{eq-eqb, ne-eqb}
 use Rattle.definitions.specs.Sums.{sum, largest}
-use Rattle.definitions.specs.Chain.{Model, jumpRate, rowSum, uniformRate, c, maxReward, jumpMillionths, chainOf, atReward, blockOf}
+use Rattle.definitions.specs.Chain.{Model, jumpRate, rowSum, uniformRate, c, maxReward, jumpMillionths, chainOf, atTime, atReward, blockOf}
 use Rattle.definitions.specs.Vectors.{U}
 use Rattle.definitions.specs.Level.{level}
 use Rattle.definitions.specs.Moment.{moment, startMean, startFigure, figureOf, cell, modelLevel}
@@ -63,7 +63,7 @@ module _ (a b : Model) (e : RaisedModel a b) where
   unfolding jumpRate
   jump-kept i j li lj = elim (ℕ-discrete j i) [ yes same ↦ rw (eq-eqb j i same) refl | no other ↦ rw (ne-eqb j i other) (e .transition i j li lj other) ]
 
-  sum-kept : (i : ℕ) → i < a .states → rowSum a i ≡ rowSum b i
+  pub sum-kept : (i : ℕ) → i < a .states → rowSum a i ≡ rowSum b i
   unfolding rowSum
   sum-kept i l = sum-same (a .states) (jumpRate a i) (jumpRate b i) (λ j k. jump-kept i j l k) ∙ ap (λ (n : ℕ). sum n (jumpRate b i)) (e .states)
 
@@ -95,28 +95,44 @@ module _ (a b : Model) (e : RaisedModel a b) where
   level-kept = ap₂ level jumps-kept (e .tolerance)
 
   -- no moment is lower, whatever the level
-  pub moment-kept : (N r i : ℕ) → i < a .states → moment a N r i ≤ moment b N r i
+  pub moment-no-lower : (N r i : ℕ) → i < a .states → moment a N r i ≤ moment b N r i
   unfolding moment
-  moment-kept N r i l = rw (← jumps-kept) (weighted-mean-mono (jumpMillionths a) N _ _ (λ n h. U-mono (chainOf a) (chainOf b) raised-chain n r i l))
+  moment-no-lower N r i l = rw (← jumps-kept) (weighted-mean-mono (jumpMillionths a) N _ _ (λ n h. U-mono (chainOf a) (chainOf b) raised-chain n r i l))
 
   -- nor a start figure, where there is a starting distribution
-  pub start-kept : (N r : ℕ) → 0 < a .distributions → startFigure a N r ≤ startFigure b N r
+  pub start-no-lower : (N r : ℕ) → 0 < a .distributions → startFigure a N r ≤ startFigure b N r
   unfolding startFigure
-  start-kept N r some =
+  start-no-lower N r some =
       let states : startMean (a .states) (b .start) (moment b N r) ≡ startMean (b .states) (b .start) (moment b N r) = ap (λ (n : ℕ). startMean n (b .start) (moment b N r)) (e .states) in
-      omega (arith, states, mean-mono (a .states) (a .start) (b .start) (moment a N r) (moment b N r) (λ i l. omega (arith, e .start some i l)) (λ i l. moment-kept N r i l))
+      omega (arith, states, mean-mono (a .states) (a .start) (b .start) (moment a N r) (moment b N r) (λ i l. omega (arith, e .start some i l)) (λ i l. moment-no-lower N r i l))
 
   -- so no figure of a block
-  figure-kept : (N r i : ℕ) → i < a .states + a .distributions → figureOf a N r i ≤ figureOf b N r i
-  figure-kept N r i l =
+  figure-no-lower : (N r i : ℕ) → i < a .states + a .distributions → figureOf a N r i ≤ figureOf b N r i
+  figure-no-lower N r i l =
       elim (decLt i (a .states)) [
-        | yes h ↦ rw (figure-of-state a N r i h, figure-of-state b N r i (omega (arith, e .states))) (moment-kept N r i h)
-        | no h ↦ rw (figure-of-start a N r i (omega (arith, h)), figure-of-start b N r i (omega (arith, h, e .states))) (start-kept N r (omega (arith, h)))
+        | yes h ↦ rw (figure-of-state a N r i h, figure-of-state b N r i (omega (arith, e .states))) (moment-no-lower N r i h)
+        | no h ↦ rw (figure-of-start a N r i (omega (arith, h)), figure-of-start b N r i (omega (arith, h, e .states))) (start-no-lower N r (omega (arith, h)))
       ]
 
-  pub cell-kept : (N k : ℕ) → k < blockOf a → cell a N k ≤ cell b N k
+  pub cell-no-lower : (N k : ℕ) → k < blockOf a → cell a N k ≤ cell b N k
   unfolding cell
-  cell-kept N k l = omega (arith, ap (λ (R : ℕ). figureOf b N (k % R + 1) (k / R)) (e .highest), figure-kept N (k % a .highest + 1) (k / a .highest) (state-of-cell k (a .states + a .distributions) (a .highest) l))
+  cell-no-lower N k l = omega (arith, ap (λ (R : ℕ). figureOf b N (k % R + 1) (k / R)) (e .highest), figure-no-lower N (k % a .highest + 1) (k / a .highest) (state-of-cell k (a .states + a .distributions) (a .highest) l))
+
+-- at any other time too
+pub raised-at : (a b : Model) → RaisedModel a b → (T : ℕ) → RaisedModel (atTime a T) (atTime b T)
+unfolding maxReward
+raised-at a b e T =
+    record {
+      states = e .states;
+      highest = e .highest;
+      tolerance = e .tolerance;
+      time = refl;
+      distributions = e .distributions;
+      start = e .start;
+      no-lower = e .no-lower;
+      not-past = e .not-past;
+      transition = e .transition;
+    }
 
 -- the model with one reward rate from its own to the largest is one
 pub one-raised : (m : Model) (i x : ℕ) → m .reward i ≤ x → x ≤ maxReward m → RaisedModel m (atReward m i x)

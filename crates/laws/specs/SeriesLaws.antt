@@ -5,11 +5,11 @@ use native.Mathlib.Nat.{le-refl, mul-le-mul-right}
 use mathlib.Core.Path.{_≡_, refl, sym, _∙_, ap, subst}
 use mathlib.Core.List.{List, [], _++_}
 use lib.ListN.{length, getD, drop, length-drop}
-use lib.Seq.{length-sets, length-take-le}
+use lib.Seq.{length-take-le}
 use borrow.Author.Tests.{le-ltb, ne-eqb}
 use Rattle.definitions.specs.Sums.{over}
-use Rattle.definitions.specs.Bytes.{big, bytesOf}
-use Rattle.definitions.specs.File.{stateCount, highestMoment, timeField, distributions, rewardField, rateField, withTime}
+use Rattle.definitions.specs.Bytes.{big}
+use Rattle.definitions.specs.File.{stateCount, highestMoment, toleranceField, timeField, distributions, rewardField, rateField, withTime}
 use Rattle.definitions.specs.Chain.{Model, modelOf, atTime, jumpRate, rowSum, uniformRate, blockOf}
 use Rattle.definitions.specs.Rules.{accepted, refused, framing, quantities, jumps, room, blockSize, rows, seriesRows, judgement, seriesJudgement}
 use Rattle.definitions.specs.Moment.{cell, modelLevel, runTo, runOf, cellsAfter}
@@ -17,7 +17,7 @@ use Rattle.definitions.specs.Promise.{Promise}
 use Rattle.definitions.specs.Series.{modelAt, levelAt, meansOfAll, seriesOutcome, levelsAfter, blocksAfter, block, IsRun, AreRuns, SeriesPromised, LevelsBounded}
 use Rattle.laws.specs.RuleLaws.{NoneHold, all-pass, none-together, also-refused, also-accepted}
 use Rattle.laws.specs.ListLaws.{getD-over}
-use Rattle.laws.specs.ByteLaws.{big-same, sets-before, sets-after, big-stored}
+use Rattle.laws.specs.ByteLaws.{big-stored, length-stored, byte-before, number-before, number-after}
 use Rattle.laws.specs.BlockLaws.{block-end, block-is}
 use Rattle.laws.specs.ChainLaws.{rate-at, rate-pos}
 use Rattle.laws.specs.Acceptance.{AcceptedSeries, SeriesRows, series-rows, time-within, accepted-series}
@@ -26,47 +26,39 @@ use Rattle.laws.specs.Demand3.{demand3}
 
 -- the file s with the time T
 module _ (s : List ℕ) (T : ℕ) (header : 13 ≤ length s) where
-  -- as long as before
-  length-with : length (withTime s T) ≡ length s
+  -- the bytes before the time are as they were, and the time is T
+  byte-with : (k : ℕ) → k < 9 → getD (withTime s T) k 0 ≡ getD s k 0
   unfolding withTime
-  length-with = length-sets s 9 (bytesOf 4 T)
+  byte-with k h = byte-before 4 T s 9 k h
 
-  -- every byte before the time and after it is as before
-  byte-before : (k : ℕ) → k < 9 → getD (withTime s T) k 0 ≡ getD s k 0
-  unfolding withTime
-  byte-before k h = sets-before s 9 (bytesOf 4 T) k h
-
-  byte-after : (k : ℕ) → 13 ≤ k → getD (withTime s T) k 0 ≡ getD s k 0
-  unfolding withTime bytesOf
-  byte-after k h = sets-after s 9 (bytesOf 4 T) k h
-
-  -- and so is a number
-  number-before : (width at : ℕ) → at + width ≤ 9 → big width (withTime s T) at ≡ big width s at
-  number-before width at h = big-same width at (withTime s T) s (λ i b. byte-before (at + i) (omega arith))
-
-  number-after : (width at : ℕ) → 13 ≤ at → big width (withTime s T) at ≡ big width s at
-  number-after width at h = big-same width at (withTime s T) s (λ i b. byte-after (at + i) (omega arith))
-
-  -- the time is T
   time-with : T < 2 ^ 32 → timeField (withTime s T) ≡ T
   unfolding withTime
   time-with h = big-stored 4 T s 9 header h
 
   states-with : stateCount (withTime s T) ≡ stateCount s
-  states-with = byte-before 3 (omega arith)
+  states-with = byte-with 3 (omega arith)
 
   highest-with : highestMoment (withTime s T) ≡ highestMoment s
-  highest-with = byte-before 4 (omega arith)
+  highest-with = byte-with 4 (omega arith)
 
   distributions-with : distributions (withTime s T) ≡ distributions s
   unfolding distributions
-  distributions-with = rw (byte-before 2 (omega arith)) refl
+  distributions-with = rw (byte-with 2 (omega arith)) refl
+
+  tolerance-with : toleranceField (withTime s T) ≡ toleranceField s
+  unfolding withTime
+  tolerance-with = number-before 4 T s 9 4 5 (omega arith)
+
+  -- and every number after it is as it was
+  number-with : (width at : ℕ) → 13 ≤ at → big width (withTime s T) at ≡ big width s at
+  unfolding withTime
+  number-with width at h = number-after 4 T s 9 width at h
 
   reward-with : (i : ℕ) → rewardField (withTime s T) i ≡ rewardField s i
-  reward-with i = rw (states-with, distributions-with) (number-after 4 _ (omega arith))
+  reward-with i = rw (states-with, distributions-with) (number-with 4 _ (omega arith))
 
   rate-with : (i j : ℕ) → rateField (withTime s T) i j ≡ rateField s i j
-  rate-with i j = rw (states-with, distributions-with) (number-after 4 _ (omega arith))
+  rate-with i j = rw (states-with, distributions-with) (number-with 4 _ (omega arith))
 
   -- its model is that of s with the time T
   pub model-with : T < 2 ^ 32 → modelOf (withTime s T) ≡ atTime (modelOf s) T
@@ -75,19 +67,19 @@ module _ (s : List ℕ) (T : ℕ) (header : 13 ≤ length s) where
       record {
         states = states-with i;
         highest = highest-with i;
-        tolerance = number-before 4 5 (omega arith) i;
+        tolerance = tolerance-with i;
         time = time-with h i;
         distributions = distributions-with i;
-        start = λ k. number-after 4 (13 + 4 * k) (omega arith) i;
+        start = λ k. number-with 4 (13 + 4 * k) (omega arith) i;
         reward = λ k. reward-with k i;
         transition = λ j k. rate-with j k i;
       }
 
   -- rows 1 to 6 read none of it
   framing-with : (low high : ℕ) → framing low high (withTime s T) ≡ framing low high s
-  unfolding framing
+  unfolding framing withTime
   framing-with low high =
-      rw (length-with, states-with, highest-with, distributions-with, number-before 2 0 (omega arith), byte-before 2 (omega arith)) refl
+      rw (length-stored 4 T s 9, states-with, highest-with, distributions-with, number-before 4 T s 9 2 0 (omega arith), byte-with 2 (omega arith)) refl
 
 -- rows 7 to 11 and 16 pass without a list, with any time but 0, where they pass with the file's time and a list
 quantities-at : (m : Model) (times : List ℕ) (T : ℕ) → NoneHold (quantities m times) → 1 ≤ T → NoneHold (quantities (atTime m T) [])

@@ -1,0 +1,151 @@
+-- Document 02, S-9, of files: with one reward rate raised, but not past the largest, a file is answered the same, and no cell is left lower; for its own time
+-- and for a list of times. And that no row of a block rises, in the cells that a call leaves.
+use Prim.Native.Nat.{ℕ, suc, _+_, _*_, _/_, _%_, _≤_, _<_, _^_}
+use native.Mathlib.Omega.{arith}
+use native.Mathlib.Nat.{le-refl, mul-le-mul, mul-le-mul-right}
+use native.Mathlib.Numerals.{add-one}
+use native.Mathlib.Decide.{decLt, ℕ-discrete}
+use mathlib.Core.Path.{_≡_, refl, sym, _∙_, ap, ap₂}
+use mathlib.Core.Bool.{Bool, not, _&&_}
+use mathlib.Core.List.{List, [], _++_}
+use lib.ListN.{length, getD}
+use lib.Dec.{ltb, eqb}
+use Rattle.definitions.specs.declared.Run.{Run}
+use Rattle.definitions.specs.Sums.{sum, largest, anyAbove, over, blocks}
+use Rattle.definitions.specs.Bytes.{big}
+use Rattle.definitions.specs.File.{lengthField, version, stateCount, highestMoment, toleranceField, timeField, distributions, weightField, rewardsAt, rewardField, withReward, place, rowAt, rateField}
+use Rattle.definitions.specs.Chain.{Model, modelOf, atTime, rowSum, uniformRate, maxReward, blockOf}
+use Rattle.definitions.specs.Rules.{Rows, accepted, misweighted, framing, quantities, listing, lastTime, jumps, room, blockSize, fileRows, rows, seriesRows, firstHeld, judgement}
+use Rattle.definitions.specs.Vectors.{rowMeans}
+use Rattle.definitions.specs.Moment.{cell, modelLevel, runOf, outcome, cellsAfter}
+use Rattle.definitions.specs.Series.{modelAt, levelAt, meansOfAll, seriesOutcome, levelsAfter, blocksAfter, block}
+use Rattle.definitions.specs.Order.{NoRise, NoneRises, NoBlockRises, Raises, NoLower, NoneLowered}
+use Rattle.laws.specs.SumLaws.{sum-same, any-largest, largest-same}
+use Rattle.laws.specs.ListLaws.{getD-over, getD-over-past, over-same}
+use Rattle.laws.specs.ByteLaws.{big-stored, length-stored, byte-before, number-before, number-after}
+use Rattle.laws.specs.Rounding.{remainder-below}
+use Rattle.laws.specs.BlockLaws.{some-size}
+use Rattle.laws.specs.RowLaws.{no-start, with-start}
+use Rattle.laws.specs.Acceptance.{Framed, accepted-file}
+use Rattle.laws.specs.MomentLaws.{getD-figure, run-judged}
+use Rattle.laws.specs.OrderLaws.{figure-falls, RaisedModel, raised-at, largest-kept, rate-kept, sum-kept, level-kept, cell-no-lower}
+
+-- two models of which one is raised pass or stop at the same rows
+module _ (a b : Model) (e : RaisedModel a b) where
+  weighed-kept : misweighted a ≡ misweighted b
+  weighed-kept =
+      elim (decLt 0 (a .distributions)) [
+        | yes some ↦
+            with-start a some
+            ∙ ap (λ (n : ℕ). not (eqb n 1000000)) (sum-same (a .states) (a .start) (b .start) (e .start some) ∙ ap (λ (n : ℕ). sum n (b .start)) (e .states))
+            ∙ sym (with-start b (omega (arith, e .distributions)))
+        | no h ↦ no-start a (omega (arith, h)) ∙ sym (no-start b (omega (arith, h, e .distributions)))
+      ]
+
+  any-reward-kept : (k : ℕ) → anyAbove k (a .states) (a .reward) ≡ anyAbove k (b .states) (b .reward)
+  unfolding maxReward
+  any-reward-kept k = any-largest k (a .states) (a .reward) ∙ ap (ltb k) (largest-kept a b e) ∙ sym (any-largest k (b .states) (b .reward))
+
+  any-sum-kept : (k : ℕ) → anyAbove k (a .states) (rowSum a) ≡ anyAbove k (b .states) (rowSum b)
+  any-sum-kept k =
+      any-largest k (a .states) (rowSum a)
+      ∙ ap (ltb k) (largest-same (a .states) (rowSum a) (rowSum b) (sum-kept a b e) ∙ ap (λ (n : ℕ). largest n (rowSum b)) (e .states))
+      ∙ sym (any-largest k (b .states) (rowSum b))
+
+  quantities-kept : (times : List ℕ) → quantities a times ≡ quantities b times
+  unfolding quantities
+  quantities-kept times = rw (any-sum-kept 10000000, weighed-kept, any-reward-kept 1000000, any-reward-kept 0, e .tolerance, e .time) refl
+
+-- a file t whose rows 1 to 6 are those of the file s, and whose model is that of s raised
+module _ (s t : List ℕ) (frame : framing 1 2 t ≡ framing 1 2 s) (e : RaisedModel (modelOf s) (modelOf t)) where
+  block-kept : blockSize t ≡ blockSize s
+  block-kept = ap₂ _*_ (ap₂ _+_ (sym (e .states)) (sym (e .distributions))) (sym (e .highest))
+
+  -- rows 1 to 11 and 16
+  first-kept : (times : List ℕ) → framing 1 2 t ++ quantities (modelOf t) times ≡ framing 1 2 s ++ quantities (modelOf s) times
+  first-kept times = ap₂ (λ (p q : Rows). p ++ q) frame (sym (quantities-kept (modelOf s) (modelOf t) e times))
+
+  rows-kept : (cells : ℕ) → rows t cells ≡ rows s cells
+  unfolding rows
+  rows-kept cells =
+      ap₂ (λ (p q : Rows). p ++ q)
+      (ap₂ (λ (p q : Rows). p ++ q) (first-kept []) (ap₂ jumps (sym (rate-kept (modelOf s) (modelOf t) e)) (sym (e .time))))
+      (ap (λ (n : ℕ). room n cells) block-kept)
+
+  run-kept : runOf (modelOf t) ≡ runOf (modelOf s)
+  run-kept =
+      sym
+      (λ i.
+      record {
+        level = level-kept (modelOf s) (modelOf t) e i;
+        means = rowMeans (level-kept (modelOf s) (modelOf t) e i) (e .states i) (e .highest i);
+      })
+
+  -- it is answered the same, whether s is accepted or not
+  pub outcome-kept : (cells : ℕ) → outcome t cells ≡ outcome s cells
+  unfolding outcome
+  outcome-kept cells = ap₂ (λ (p : Rows) (run : Run). firstHeld p run) (rows-kept cells) run-kept
+
+  -- and of the same cells leaves none lower
+  pub cells-no-lower : (run : Run) (cells : List ℕ) (k : ℕ) → getD (cellsAfter (accepted run) s cells) k 0 ≤ getD (cellsAfter (accepted run) t cells) k 0
+  unfolding cellsAfter
+  cells-no-lower run cells k =
+      let N : ℕ = run .level in
+      elim (decLt k (blockSize s)) [
+        | yes l ↦
+            omega
+            (arith, getD-over 0 (blockSize s) (cell (modelOf s) N) cells k l, getD-over 0 (blockSize t) (cell (modelOf t) N) cells k (omega (arith, block-kept)), cell-no-lower (modelOf s) (modelOf t) e N k l)
+        | no past ↦
+            omega
+            (arith, getD-over-past 0 (blockSize s) (cell (modelOf s) N) cells k (omega (arith, past)), getD-over-past 0 (blockSize t) (cell (modelOf t) N) cells k (omega (arith, past, block-kept)))
+      ]
+
+  -- for a list of times: each level is the same
+  at-time : (times : List ℕ) (k : ℕ) → RaisedModel (modelAt s times k) (modelAt t times k)
+  at-time times k = raised-at (modelOf s) (modelOf t) e (getD times k 0)
+
+  level-at-kept : (times : List ℕ) (k : ℕ) → levelAt s times k ≡ levelAt t times k
+  unfolding levelAt
+  level-at-kept times k = level-kept (modelAt s times k) (modelAt t times k) (at-time times k)
+
+  pub levels-kept : (n : ℕ) (times levels : List ℕ) → levelsAfter (accepted n) t times levels ≡ levelsAfter (accepted n) s times levels
+  unfolding levelsAfter
+  levels-kept n times levels = sym (over-same (length times) (levelAt s times) (levelAt t times) levels (λ k h. level-at-kept times k))
+
+  -- so is the answer
+  series-rows-kept : (times : List ℕ) (levels cells : ℕ) → seriesRows t times levels cells ≡ seriesRows s times levels cells
+  unfolding seriesRows
+  series-rows-kept times levels cells =
+      let E = sym (rate-kept (modelOf s) (modelOf t) e) in
+      ap (λ (p : Rows). p ++ room (length times) levels)
+      (ap₂ (λ (p q : Rows). p ++ q)
+      (ap₂ (λ (p q : Rows). p ++ listing times ++ q) (first-kept times) (ap (λ (x : ℕ). jumps x (lastTime times)) E))
+      (ap (λ (n : ℕ). room (length times * n) cells) block-kept))
+
+  means-kept : (times : List ℕ) → meansOfAll t times ≡ meansOfAll s times
+  means-kept times =
+      let levels : largest (length times) (levelAt s times) ≡ largest (length times) (levelAt t times) = largest-same (length times) (levelAt s times) (levelAt t times) (λ k h. level-at-kept times k) in
+      sym (λ i. rowMeans (levels i) (e .states i) (e .highest i))
+
+  pub series-kept : (times : List ℕ) (levels cells : ℕ) → seriesOutcome t times levels cells ≡ seriesOutcome s times levels cells
+  unfolding seriesOutcome
+  series-kept times levels cells = ap₂ (λ (p : Rows) (n : ℕ). firstHeld p n) (series-rows-kept times levels cells) (means-kept times)
+
+  -- and no cell of a block is left lower
+  pub blocks-no-lower : (n : ℕ) (times cells : List ℕ) (k : ℕ) → getD (blocksAfter (accepted n) s times cells) k 0 ≤ getD (blocksAfter (accepted n) t times cells) k 0
+  unfolding blocksAfter blocks
+  blocks-no-lower n times cells k = rw block-kept (from (decLt k (length times * blockSize s)))
+    where
+      figure : List ℕ → ℕ → ℕ
+      figure x p = cell (modelAt x times (p / blockSize s)) (levelAt x times (p / blockSize s)) (p % blockSize s)
+
+      from : Dec (k < length times * blockSize s) → getD (over (length times * blockSize s) (figure s) cells) k 0 ≤ getD (over (length times * blockSize s) (figure t) cells) k 0
+      from (yes l) =
+          let j : ℕ = k / blockSize s in
+          let inside : k % blockSize s < blockSize s = remainder-below k (blockSize s) (some-size k (length times) (blockSize s) l) in
+          let same = ap (λ (N : ℕ). cell (modelAt t times j) N (k % blockSize s)) (level-at-kept times j) in
+          rw (getD-over 0 (length times * blockSize s) (figure s) cells k l, getD-over 0 (length times * blockSize s) (figure t) cells k l)
+          (omega (arith, same, cell-no-lower (modelAt s times j) (modelAt t times j) (at-time times j) (levelAt s times j) (k % blockSize s) inside))
+      from (no past) =
+          omega
+          (arith, getD-over-past 0 (length times * blockSize s) (figure s) cells k (omega (arith, past)), getD-over-past 0 (length times * blockSize s) (figure t) cells k (omega (arith, past)))
