@@ -41,3 +41,14 @@ pub record NoLower (t : List ℕ) (run : Run) (before after : List ℕ) : Type 0
 abbrev pub NoneLowered : Answer Run → List ℕ → List ℕ → List ℕ → Type 0
 NoneLowered (accepted run) s before after = (i x : ℕ) → Raises s i x → NoLower (withReward s i x) run before after
 NoneLowered (refused k) s before after = Unit {0}
+
+-- the file t and the list of times answer the count n, give the same levels, and of the cells that were lent leave none below what stands after
+pub record NoLowerBlocks (t times : List ℕ) (n : ℕ) (levels levels-after before after : List ℕ) : Type 0 where
+  pub same-count : seriesOutcome t times (length levels) (length before) ≡ accepted n
+  pub same-levels : levelsAfter (accepted n) t times levels ≡ levels-after
+  pub no-lower : (k : ℕ) → getD after k 0 ≤ getD (blocksAfter (accepted n) t times before) k 0
+
+-- of an answer for a list of times: with one reward rate raised the call answers the same count and levels, and leaves no cell lower
+abbrev pub NoBlockLowered : Answer ℕ → List ℕ → List ℕ → List ℕ → List ℕ → List ℕ → List ℕ → Type 0
+NoBlockLowered (accepted n) s times levels levels-after before after = (i x : ℕ) → Raises s i x → NoLowerBlocks (withReward s i x) times n levels levels-after before after
+NoBlockLowered (refused k) s times levels levels-after before after = Unit {0}

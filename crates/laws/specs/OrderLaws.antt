@@ -3,19 +3,26 @@
 use Prim.Native.Nat.{ℕ, suc, _+_, _*_, _-_, _/_, _%_, max, _≤_, _<_}
 use native.Mathlib.Omega.{arith}
 use native.Mathlib.Nat.{le-refl, le-antisymm}
+use native.Mathlib.Numerals.{add-one}
 use native.Mathlib.Decide.{decLt, ℕ-discrete}
-use mathlib.Core.Path.{_≡_, refl, sym, _∙_, ap, ap₂}
+use mathlib.Core.Path.{_≡_, refl, sym, _∙_, ap, ap₂, subst}
+use mathlib.Core.List.{List}
+use lib.ListN.{length}
 use borrow.Author.Tests.{eq-eqb, ne-eqb}
-use Rattle.definitions.specs.Sums.{sum, largest}
-use Rattle.definitions.specs.Chain.{Model, jumpRate, rowSum, uniformRate, c, maxReward, jumpMillionths, chainOf, atTime, atReward, blockOf}
-use Rattle.definitions.specs.Vectors.{U}
+use Rattle.definitions.specs.declared.Run.{Run}
+use Rattle.definitions.specs.Sums.{sum, largest, over}
+use Rattle.definitions.specs.Chain.{Model, modelOf, jumpRate, rowSum, uniformRate, c, maxReward, jumpMillionths, chainOf, atTime, atReward, blockOf}
+use Rattle.definitions.specs.Rules.{accepted, blockSize}
 use Rattle.definitions.specs.Level.{level}
-use Rattle.definitions.specs.Moment.{moment, startMean, startFigure, figureOf, cell, modelLevel}
+use Rattle.definitions.specs.Moment.{moment, startMean, startFigure, cellOf, figureOf, cell, modelLevel, cellsAfter}
+use Rattle.definitions.specs.Series.{modelAt, levelAt, blocksAfter, block}
+use Rattle.definitions.specs.Order.{NoRise, NoneRises, NoBlockRises}
 use Rattle.laws.specs.SumLaws.{sum-same, le-largest, largest-le, largest-same}
+use Rattle.laws.specs.BlockLaws.{block-is}
 use Rattle.laws.specs.ChainLaws.{Raised, reward-le-largest}
 use Rattle.laws.specs.VectorLaws.{U-mono, U-falls}
 use Rattle.laws.specs.Acceptance.{stochastic}
-use Rattle.laws.specs.MomentLaws.{figure-of-state, figure-of-start, state-of-cell, weighted-mean-mono}
+use Rattle.laws.specs.MomentLaws.{figure-of-state, figure-of-start, getD-figure, state-of-cell, weighted-mean-mono}
 use Rattle.laws.specs.StartLaws.{mean-mono}
 
 -- from each state, whatever the level
@@ -35,6 +42,22 @@ figure-falls m N r i =
       | yes l ↦ rw (figure-of-state m N (suc r) i l, figure-of-state m N r i l) (moment-falls m N r i l)
       | no h ↦ rw (figure-of-start m N (suc r) i (omega (arith, h)), figure-of-start m N r i (omega (arith, h))) (start-falls m N r)
     ]
+
+-- so in the cells of a block, whatever stood in them
+no-rise : (m : Model) (N : ℕ) (cells : List ℕ) → NoRise m (over (blockOf m) (cell m N) cells)
+no-rise m N cells i r l low high =
+    omega (arith, getD-figure m N i (r + 1) cells l (omega arith) (omega arith), getD-figure m N i r cells l low (omega arith), ap (λ (k : ℕ). figureOf m N k i) (add-one r), figure-falls m N r i)
+
+-- in those that a run leaves, and in every block that a list of times leaves
+pub none-rises : (s cells : List ℕ) (run : Run) → NoneRises (accepted run) s (cellsAfter (accepted run) s cells)
+unfolding cellsAfter
+none-rises s cells run = no-rise (modelOf s) (run .level) cells
+
+pub no-block-rises : (s times cells : List ℕ) (n : ℕ) → length times * blockSize s ≤ length cells → NoBlockRises (accepted n) s times (blocksAfter (accepted n) s times cells)
+unfolding blocksAfter cellOf
+no-block-rises s times cells n room k h =
+    subst (NoRise (modelOf s)) (sym (block-is (blockSize s) 0 (length times) (λ j. cell (modelAt s times j) (levelAt s times j)) cells k h room))
+    (no-rise (modelAt s times k) (levelAt s times k) (block s cells k))
 
 -- model b has no lower reward rates than model a, and none above the largest of a; all else is the same, at the states, and the starting weights where there is a
 -- starting distribution

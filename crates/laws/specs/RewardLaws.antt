@@ -1,6 +1,6 @@
 -- Document 02, S-9, of files: with one reward rate raised, but not past the largest, a file is answered the same, and no cell is left lower; for its own time
--- and for a list of times. And that no row of a block rises, in the cells that a call leaves.
-use Prim.Native.Nat.{ℕ, suc, _+_, _*_, _/_, _%_, _≤_, _<_, _^_}
+-- and for a list of times.
+use Prim.Native.Nat.{ℕ, suc, _+_, _*_, _-_, _/_, _%_, _≤_, _<_, _^_}
 use native.Mathlib.Omega.{arith}
 use native.Mathlib.Nat.{le-refl, mul-le-mul, mul-le-mul-right}
 use native.Mathlib.Numerals.{add-one}
@@ -19,16 +19,18 @@ use Rattle.definitions.specs.Rules.{Rows, accepted, misweighted, framing, quant
 use Rattle.definitions.specs.Vectors.{rowMeans}
 use Rattle.definitions.specs.Moment.{cell, modelLevel, runOf, outcome, cellsAfter}
 use Rattle.definitions.specs.Series.{modelAt, levelAt, meansOfAll, seriesOutcome, levelsAfter, blocksAfter, block}
-use Rattle.definitions.specs.Order.{NoRise, NoneRises, NoBlockRises, Raises, NoLower, NoneLowered}
+use Rattle.definitions.specs.Order.{Raises, NoLower, NoneLowered, NoLowerBlocks, NoBlockLowered}
 use Rattle.laws.specs.SumLaws.{sum-same, any-largest, largest-same}
 use Rattle.laws.specs.ListLaws.{getD-over, getD-over-past, over-same}
 use Rattle.laws.specs.ByteLaws.{big-stored, length-stored, byte-before, number-before, number-after}
 use Rattle.laws.specs.Rounding.{remainder-below}
 use Rattle.laws.specs.BlockLaws.{some-size}
+use Rattle.laws.specs.ChainLaws.{reward-le-largest}
 use Rattle.laws.specs.RowLaws.{no-start, with-start}
-use Rattle.laws.specs.Acceptance.{Framed, accepted-file}
-use Rattle.laws.specs.MomentLaws.{getD-figure, run-judged}
-use Rattle.laws.specs.OrderLaws.{figure-falls, RaisedModel, raised-at, largest-kept, rate-kept, sum-kept, level-kept, cell-no-lower}
+use Rattle.laws.specs.Acceptance.{Framed, accepted-file, accepted-series}
+use Rattle.laws.specs.MomentLaws.{run-judged}
+use Rattle.laws.specs.SeriesLaws.{series-judged}
+use Rattle.laws.specs.OrderLaws.{RaisedModel, raised-at, largest-kept, rate-kept, sum-kept, level-kept, cell-no-lower}
 
 -- two models of which one is raised pass or stop at the same rows
 module _ (a b : Model) (e : RaisedModel a b) where
@@ -149,3 +151,106 @@ module _ (s t : List ℕ) (frame : framing 1 2 t ≡ framing 1 2 s) (e : RaisedM
       from (no past) =
           omega
           (arith, getD-over-past 0 (length times * blockSize s) (figure s) cells k (omega (arith, past)), getD-over-past 0 (length times * blockSize s) (figure t) cells k (omega (arith, past)))
+
+-- the framed file s with a reward rate x, from its own to the largest, for state i: it fits its four bytes
+module _ (s : List ℕ) (framed : Framed s) (i x : ℕ) (raises : Raises s i x) (fits : x < 2 ^ 32) where
+  abbrev at : ℕ
+  at = rewardsAt s + 4 * i
+
+  inside : at + 4 ≤ length s
+  inside = omega (arith, framed .size, raises .state, mul-le-mul-right (stateCount s) (framed .states-min))
+
+  -- the header is as it was
+  byte-kept : (k : ℕ) → k < 13 → getD (withReward s i x) k 0 ≡ getD s k 0
+  unfolding withReward
+  byte-kept k h = byte-before 4 x s at k (omega arith)
+
+  number-kept : (width k : ℕ) → k + width ≤ 13 → big width (withReward s i x) k ≡ big width s k
+  unfolding withReward
+  number-kept width k h = number-before 4 x s at width k (omega arith)
+
+  length-kept : length (withReward s i x) ≡ length s
+  unfolding withReward
+  length-kept = length-stored 4 x s at
+
+  states-kept : stateCount (withReward s i x) ≡ stateCount s
+  states-kept = byte-kept 3 (omega arith)
+
+  highest-kept : highestMoment (withReward s i x) ≡ highestMoment s
+  highest-kept = byte-kept 4 (omega arith)
+
+  distributions-kept : distributions (withReward s i x) ≡ distributions s
+  unfolding distributions
+  distributions-kept = rw (byte-kept 2 (omega arith)) refl
+
+  -- rows 1 to 6 read nothing else
+  pub framing-kept : (low high : ℕ) → framing low high (withReward s i x) ≡ framing low high s
+  unfolding framing
+  framing-kept low high =
+      rw (length-kept, states-kept, highest-kept, distributions-kept, number-kept 2 0 (omega arith), byte-kept 2 (omega arith)) refl
+
+  rewards-kept : rewardsAt (withReward s i x) ≡ rewardsAt s
+  rewards-kept = rw (states-kept, distributions-kept) refl
+
+  -- the weights stand before the reward
+  weight-kept : (j : ℕ) → j < distributions s * stateCount s → weightField s j ≡ weightField (withReward s i x) j
+  unfolding withReward
+  weight-kept j h = sym (number-before 4 x s at 4 (13 + 4 * j) (omega arith))
+
+  -- the reward of state i is x; those of the other states stand before or after it
+  reward-is : rewardField (withReward s i x) i ≡ x
+  unfolding withReward
+  reward-is = ap (λ (k : ℕ). big 4 (withReward s i x) (k + 4 * i)) rewards-kept ∙ big-stored 4 x s at inside fits
+
+  reward-kept : (j : ℕ) → (j ≡ i → ⊥) → rewardField (withReward s i x) j ≡ rewardField s j
+  unfolding withReward
+  reward-kept j other =
+      ap (λ (k : ℕ). big 4 (withReward s i x) (k + 4 * j)) rewards-kept
+      ∙ elim (decLt j i) [ yes before ↦ number-before 4 x s at 4 (rewardsAt s + 4 * j) (omega arith) | no after ↦ number-after 4 x s at 4 (rewardsAt s + 4 * j) (omega (arith, after, other)) ]
+
+  -- the rates stand after all rewards
+  rate-kept-at : (j k : ℕ) → rateField s j k ≡ rateField (withReward s i x) j k
+  unfolding withReward
+  rate-kept-at j k =
+      sym
+      (ap (λ (M : ℕ). big 4 (withReward s i x) (rewardsAt (withReward s i x) + 4 * M + 4 * (M - 1) * j + 4 * place j k)) states-kept
+      ∙ ap (λ (p : ℕ). big 4 (withReward s i x) (p + 4 * stateCount s + 4 * (stateCount s - 1) * j + 4 * place j k)) rewards-kept
+      ∙ number-after 4 x s at 4 (rowAt s j + 4 * place j k) (omega (arith, raises .state)))
+
+  -- so its model is that of s raised
+  pub file-raised : RaisedModel (modelOf s) (modelOf (withReward s i x))
+  file-raised =
+      record {
+        states = sym states-kept;
+        highest = sym highest-kept;
+        tolerance = sym (number-kept 4 5 (omega arith));
+        time = sym (number-kept 4 9 (omega arith));
+        distributions = sym distributions-kept;
+        start = λ some j l. weight-kept j (omega (arith, l, mul-le-mul-right (stateCount s) some));
+        no-lower = λ j l. elim (ℕ-discrete j i) [ yes same ↦ rw (same, reward-is) (raises .from) | no other ↦ omega (arith, reward-kept j other) ];
+        not-past = λ j l. elim (ℕ-discrete j i) [ yes same ↦ rw (same, reward-is) (raises .to) | no other ↦ omega (arith, reward-kept j other, reward-le-largest (modelOf s) j l) ];
+        transition = λ j k lj lk other. rate-kept-at j k;
+      }
+
+-- of an accepted file, and of one accepted with a list of times: raising one reward rate lowers no cell
+pub none-lowered : (s cells : List ℕ) (run : Run) → outcome s (length cells) ≡ accepted run → NoneLowered (accepted run) s cells (cellsAfter (accepted run) s cells)
+none-lowered s cells run e i x raises =
+    let f = accepted-file s (length cells) (run-judged s (length cells) run e) .model in
+    let fits : x < 2 ^ 32 = omega (arith, raises .to, f .limits .rewards-max) in
+    let frame = framing-kept s (f .framed) i x raises fits 1 2 in
+    let raised = file-raised s (f .framed) i x raises fits in
+    record { same-run = outcome-kept s (withReward s i x) frame raised (length cells) ∙ e; no-lower = cells-no-lower s (withReward s i x) frame raised run cells }
+
+pub no-block-lowered : (s times levels cells : List ℕ) (n : ℕ) → seriesOutcome s times (length levels) (length cells) ≡ accepted n → NoBlockLowered (accepted n) s times levels (levelsAfter (accepted n) s times levels) cells (blocksAfter (accepted n) s times cells)
+unfolding maxReward
+no-block-lowered s times levels cells n e i x raises =
+    let f = accepted-series s times (length levels) (length cells) (series-judged s times (length levels) (length cells) n e) in
+    let t : List ℕ = withReward s i x in
+    let fits : x < 2 ^ 32 = omega (arith, raises .to, f .limits 0 (f .count-min) .rewards-max) in
+    let frame = framing-kept s (f .framed) i x raises fits 1 2 in
+    let raised = file-raised s (f .framed) i x raises fits in
+    record {
+      same-count = series-kept s t frame raised times (length levels) (length cells) ∙ e;
+      same-levels = levels-kept s t frame raised n times levels;
+      no-lower = blocks-no-lower s t frame raised n times cells;
+    }
