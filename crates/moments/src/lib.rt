@@ -10,6 +10,7 @@ ghost use Rattle.definitions.specs.Rules.{accepted, saying};
 ghost use Rattle.definitions.specs.Moment.{runOf, outcome, answerOf, cellsAfter, LevelBounded};
 ghost use Rattle.definitions.specs.Promise.{Promised};
 ghost use Rattle.definitions.specs.Series.{meansOfAll, seriesOutcome, seriesAnswer, levelsAfter, blocksAfter, AreRuns, SeriesPromised, LevelsBounded};
+ghost use Rattle.definitions.specs.Order.{NoneRises, NoBlockRises, NoneLowered, NoBlockLowered};
 ghost use Rattle.laws.specs.Acceptance.{AcceptedFile, AcceptedSeries};
 ghost use Rattle.laws.specs.LevelLaws.{LEVELS};
 ghost use Rattle.moments.specs.Filling.{started, Startable};
@@ -154,6 +155,8 @@ pub fn calculate(file: &[u8], cells: &mut [u64]) -> Outcome
     ensures cells { λ o. ⌜ now (cells .exit) ≡ cellsAfter (answerOf o) (now (file .entry)) (now (cells .entry)) ⌝ }
     ensures promise { λ o. ⌜ Promised (answerOf o) (now (file .entry)) (now (cells .exit)) ⌝ }
     ensures bounded { λ o. ⌜ LevelBounded (saying (λ x. x .level) (answerOf o)) (now (file .entry)) ⌝ }
+    ensures order { λ o. ⌜ NoneRises (answerOf o) (now (file .entry)) (now (cells .exit)) ⌝ }
+    ensures raised { λ o. ⌜ NoneLowered (answerOf o) (now (file .entry)) (now (cells .entry)) (now (cells .exit)) ⌝ }
 {
     let judgement = refusals::judge(file, cells.len());
     match judgement {
@@ -185,6 +188,8 @@ pub fn series(file: &[u8], times: &[u32], levels: &mut [u64], cells: &mut [u64])
     ensures promise { λ o. ⌜ SeriesPromised (seriesAnswer o) (now (file .entry)) (now (times .entry)) (now (levels .exit)) (now (cells .exit)) ⌝ }
     ensures runs { λ o. ⌜ AreRuns (seriesAnswer o) (now (file .entry)) (now (times .entry)) (now (levels .exit)) (now (cells .entry)) (now (cells .exit)) ⌝ }
     ensures bounded { λ o. ⌜ LevelsBounded (seriesAnswer o) (now (file .entry)) (now (times .entry)) (now (levels .exit)) ⌝ }
+    ensures order { λ o. ⌜ NoBlockRises (seriesAnswer o) (now (file .entry)) (now (times .entry)) (now (cells .exit)) ⌝ }
+    ensures raised { λ o. ⌜ NoBlockLowered (seriesAnswer o) (now (file .entry)) (now (times .entry)) (now (levels .entry)) (now (levels .exit)) (now (cells .entry)) (now (cells .exit)) ⌝ }
 {
     let judgement = refusals::judge_series(file, times, levels.len(), cells.len());
     match judgement {

@@ -1,4 +1,4 @@
--- A refused file touches no cell; an accepted one has its cells filled. Demand 3 holds of them, and the level's bound.
+-- A refused file touches no cell; an accepted one has its cells filled. Demand 3 holds of them, the level's bound, and the order of the figures.
 use mathlib.Core.Path.{_≡_, refl, sym, _∙_, ap, subst}
 use lib.ListN.{length}
 use Rattle.definitions.specs.declared.Run.{Run}
@@ -9,6 +9,8 @@ use Rattle.definitions.specs.Promise.{Promised}
 use Rattle.laws.specs.Acceptance.{accepted-file}
 use Rattle.laws.specs.MomentLaws.{outcome-refused, outcome-accepted, level-bounded}
 use Rattle.laws.specs.Demand3.{demand3}
+use Rattle.laws.specs.OrderLaws.{none-rises}
+use Rattle.laws.specs.RewardLaws.{none-lowered}
 use borrow.Author.Needs.{needs}
 use Rattle.moments.proofs.calculate.Statement.{statement}
 use Rattle.moments.proofs.calculate.Tie as tie
@@ -18,7 +20,7 @@ fill-requires c κs = accepted-file _ _ (sym (c .before .before .before .judge .
 
 returns : tie.Need-returns
 unfolding cellsAfter
-returns c = (sym (outcome-refused _ _ _ (sym (c .before .before .before .judge .ensures) ∙ ap verdict (c .before .judgement .given .1))), (refl, (tt, tt)))
+returns c = (sym (outcome-refused _ _ _ (sym (c .before .before .before .judge .ensures) ∙ ap verdict (c .before .judgement .given .1))), (refl, (tt, (tt, (tt, tt)))))
 
 returns-2 : tie.Need-returns-2
 returns-2 c =
@@ -29,7 +31,8 @@ returns-2 c =
     let after = c .before .before .fill-own .ensures .1 in
     let promised = subst (λ (x : Run). Promised (accepted x) s (cellsAfter (accepted x) s cells)) (sym run) (demand3 s cells passed) in
     let bounded = subst (λ (x : Run). LevelBounded (accepted (x .level)) s) (sym run) (level-bounded (modelOf s) (accepted-file s (length cells) passed .model .limits)) in
-    (ap accepted run ∙ sym (outcome-accepted s (length cells) passed), (after, (rw after promised, bounded)))
+    let answer = ap accepted run ∙ sym (outcome-accepted s (length cells) passed) in
+    (answer, (after, (rw after promised, (bounded, (rw after (none-rises s cells _), rw after (none-lowered s cells _ (sym answer)))))))
 
 pub calculate-spec : {M : Type 1} → statement M
 calculate-spec =
