@@ -7,6 +7,7 @@ ghost use Rattle.definitions.specs.Rules.{saying};
 ghost use Rattle.definitions.specs.Moment.{outcome, cellsAfter, countAfter, LevelBounded};
 ghost use Rattle.definitions.specs.Promise.{Promised};
 ghost use Rattle.definitions.specs.Series.{seriesOutcome, levelsAfter, blocksAfter, AreRuns, SeriesPromised, LevelsBounded};
+ghost use Rattle.definitions.specs.Order.{NoneRises, NoBlockRises, NoneLowered, NoBlockLowered};
 ghost use Rattle.definitions.specs.Remainders.{remaindersOf, numberAfter, WorkedOut};
 ghost use Rattle.definitions.specs.Written.{countOf, bytesAfter, writtenAnswer};
 ghost use Rattle.definitions.specs.Convert.{toVersion2, toVersion1, ThereAndBack};
@@ -34,6 +35,8 @@ pub extern "C" fn kuldrepso_calculate(file: &[u8], cells: &mut [u64], means: &mu
     ensures cells { λ r. ⌜ now (cells .exit) ≡ cellsAfter (outcome (now (file .entry)) (length (now (cells .entry)))) (now (file .entry)) (now (cells .entry)) ⌝ }
     ensures promise { λ r. ⌜ Promised (outcome (now (file .entry)) (length (now (cells .entry)))) (now (file .entry)) (now (cells .exit)) ⌝ }
     ensures bounded { λ r. ⌜ LevelBounded (meant r) (now (file .entry)) ⌝ }
+    ensures order { λ r. ⌜ NoneRises (outcome (now (file .entry)) (length (now (cells .entry)))) (now (file .entry)) (now (cells .exit)) ⌝ }
+    ensures raised { λ r. ⌜ NoneLowered (outcome (now (file .entry)) (length (now (cells .entry)))) (now (file .entry)) (now (cells .entry)) (now (cells .exit)) ⌝ }
     ensures means { λ r. ⌜ now (means .exit) ≡ countAfter (saying (λ x. x .means) (outcome (now (file .entry)) (length (now (cells .entry))))) (now (means .entry)) ⌝ }
 {
     match moments::calculate(file, cells) {
@@ -61,6 +64,8 @@ pub extern "C" fn kuldrepso_series(
     ensures promise { λ r. ⌜ SeriesPromised (seriesOutcome (now (file .entry)) (now (times .entry)) (length (now (levels .entry))) (length (now (cells .entry)))) (now (file .entry)) (now (times .entry)) (now (levels .exit)) (now (cells .exit)) ⌝ }
     ensures runs { λ r. ⌜ AreRuns (seriesOutcome (now (file .entry)) (now (times .entry)) (length (now (levels .entry))) (length (now (cells .entry)))) (now (file .entry)) (now (times .entry)) (now (levels .exit)) (now (cells .entry)) (now (cells .exit)) ⌝ }
     ensures bounded { λ r. ⌜ LevelsBounded (seriesOutcome (now (file .entry)) (now (times .entry)) (length (now (levels .entry))) (length (now (cells .entry)))) (now (file .entry)) (now (times .entry)) (now (levels .exit)) ⌝ }
+    ensures order { λ r. ⌜ NoBlockRises (seriesOutcome (now (file .entry)) (now (times .entry)) (length (now (levels .entry))) (length (now (cells .entry)))) (now (file .entry)) (now (times .entry)) (now (cells .exit)) ⌝ }
+    ensures raised { λ r. ⌜ NoBlockLowered (seriesOutcome (now (file .entry)) (now (times .entry)) (length (now (levels .entry))) (length (now (cells .entry)))) (now (file .entry)) (now (times .entry)) (now (levels .entry)) (now (levels .exit)) (now (cells .entry)) (now (cells .exit)) ⌝ }
     ensures means { λ r. ⌜ now (means .exit) ≡ countAfter (seriesOutcome (now (file .entry)) (now (times .entry)) (length (now (levels .entry))) (length (now (cells .entry)))) (now (means .entry)) ⌝ }
 {
     match moments::series(file, times, levels, cells) {

@@ -22,8 +22,8 @@ returns c =
     let solved = c .before .before .before .before .before in
     let told = c .before .run .given .1 in
     let rest = rw told at (solved .calculate .ensures .1) in
-    let bound = bound-meant _ _ _ (answered solved _ told) (rest .1 .1) in
-    rw (answered solved _ told) (omega arith, (rest .0, (rest .1 .0, (bound, omega arith))))
+    let bound = bound-meant _ _ _ (answered solved _ told) (rest .1 .1 .0) in
+    rw (answered solved _ told) (omega arith, (rest .0, (rest .1 .0, (bound, (rest .1 .1 .1 .0, (rest .1 .1 .1 .1, omega arith))))))
 
 returns-2 : tie.Need-returns-2
 unfolding plainAnswer
@@ -31,8 +31,8 @@ returns-2 c =
     let refusal = c .before .before .before .before .before in
     let told = c .before .row .given .1 in
     let rest = rw told at (refusal .calculate .ensures .1) in
-    let bound = bound-meant _ _ _ (answered refusal _ told) (rest .1 .1) in
-    rw (answered refusal _ told) (omega arith, (rest .0, (rest .1 .0, (bound, omega arith))))
+    let bound = bound-meant _ _ _ (answered refusal _ told) (rest .1 .1 .0) in
+    rw (answered refusal _ told) (omega arith, (rest .0, (rest .1 .0, (bound, (rest .1 .1 .1 .0, (rest .1 .1 .1 .1, omega arith))))))
 
 pub kuldrepso-calculate-spec : {M : Type 1} → statement M
 kuldrepso-calculate-spec =

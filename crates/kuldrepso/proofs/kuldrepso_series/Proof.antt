@@ -21,7 +21,7 @@ returns c =
     let solved = c .before .before .before .before .before .before .before in
     let told = c .before .taken .given .1 in
     let rest = rw told at (solved .series .ensures .1) in
-    rw (answered solved _ told) (omega arith, (rest .0, (rest .1 .0, (rest .1 .1 .0, (rest .1 .1 .1 .0, (rest .1 .1 .1 .1, omega arith))))))
+    rw (answered solved _ told) (omega arith, (rest .0, (rest .1 .0, (rest .1 .1 .0, (rest .1 .1 .1 .0, (rest .1 .1 .1 .1 .0, (rest .1 .1 .1 .1 .1 .0, (rest .1 .1 .1 .1 .1 .1, omega arith))))))))
 
 returns-2 : tie.Need-returns-2
 unfolding plainAnswer
@@ -29,7 +29,7 @@ returns-2 c =
     let refusal = c .before .before .before .before .before .before .before in
     let told = c .before .k .given .1 in
     let rest = rw told at (refusal .series .ensures .1) in
-    rw (answered refusal _ told) (omega arith, (rest .0, (rest .1 .0, (rest .1 .1 .0, (rest .1 .1 .1 .0, (rest .1 .1 .1 .1, omega arith))))))
+    rw (answered refusal _ told) (omega arith, (rest .0, (rest .1 .0, (rest .1 .1 .0, (rest .1 .1 .1 .0, (rest .1 .1 .1 .1 .0, (rest .1 .1 .1 .1 .1 .0, (rest .1 .1 .1 .1 .1 .1, omega arith))))))))
 
 pub kuldrepso-series-spec : {M : Type 1} → statement M
 kuldrepso-series-spec =
