@@ -28,5 +28,6 @@ pub mod Numeral
 pub mod Sheet
 pub mod HandChecked
 pub mod StartChecked
+pub mod OrderChecked
 pub mod PracticeChecked
 pub mod ArrowsChecked

@@ -1,0 +1,123 @@
+-- Document 02, S-9, checked by hand: rows that fall, that stay level and that rise; one reward rate in a file; and that both statements are false if they say
+-- more: "strictly below", and a reward rate raised past the largest.
+use Prim.Native.Nat.{ℕ, zero, suc, _+_, _≤_, _<_}
+use native.Mathlib.Omega.{arith}
+use native.Mathlib.Decide.{ℕ-discrete}
+use mathlib.Core.List.{List, [], _∷_, _++_}
+use mathlib.Core.Path.{_≡_, refl, ap}
+use lib.ListN.{getD, set, replicate}
+use Rattle.definitions.specs.declared.Run.{Run}
+use Rattle.definitions.specs.Sums.{sum, largest, anyAbove, firsts, over}
+use Rattle.definitions.specs.Bytes.{big, bytesOf}
+use Rattle.definitions.specs.File.{distributions, withReward}
+use Rattle.definitions.specs.Chain.{Model, modelOf, jumpRate, rowSum, uniformRate, c, maxReward, jumpMillionths}
+use Rattle.definitions.specs.Rules.{accepted, framing, quantities, jumps, room, rows, firstHeld}
+use Rattle.definitions.specs.Vectors.{ONE, rowMean, rewardShare, mix, nextEntry, firstVectors, nextVectors, U, rowMeans}
+use Rattle.definitions.specs.Weights.{mode, rightward, leftward, weight, weightSum}
+use Rattle.definitions.specs.Level.{tailBound, allowance, passes?, firstFrom, level}
+use Rattle.definitions.specs.Moment.{term, weighted, nearest, lastQuotient, weightedMean, moment, cellOf, figureOf, cell, modelLevel, outcome, cellsAfter}
+use Rattle.definitions.specs.Order.{NoRise, NoBlockRises, Raises, NoLower}
+use Rattle.definitions.specs.HandChecked.{fileB, modelB}
+use Rattle.definitions.specs.StartChecked.{startB}
+
+-- B's cells: each row falls
+pub falling-B : NoRise modelB (718750000000 ∷ 612500000000 ∷ 281250000000 ∷ 175000000000 ∷ [])
+unfolding cellOf distributions
+falling-B i r l low high =
+    let one : r ≡ 1 = omega arith in
+    elim (ℕ-discrete i 0) [
+      | yes first ↦ rw (first, one) (omega arith)
+      | no other ↦ let second : i ≡ 1 = omega (arith, other) in rw (second, one) (omega arith)
+    ]
+
+-- a row that rises is found at either state, in the start's row, and in the second block of a list of times
+pub rising-first : NoRise modelB (718750000000 ∷ 718750000001 ∷ 281250000000 ∷ 175000000000 ∷ []) → ⊥
+unfolding cellOf distributions
+rising-first none = let no : 718750000001 ≤ 718750000000 = none 0 1 (omega arith) (omega arith) (omega arith) in omega (arith, no)
+
+pub rising-last : NoRise modelB (718750000000 ∷ 612500000000 ∷ 281250000000 ∷ 281250000001 ∷ []) → ⊥
+unfolding cellOf distributions
+rising-last none = let no : 281250000001 ≤ 281250000000 = none 1 1 (omega arith) (omega arith) (omega arith) in omega (arith, no)
+
+pub rising-start : NoRise (modelOf startB) (718750000000 ∷ 612500000000 ∷ 281250000000 ∷ 175000000000 ∷ 390625000000 ∷ 390625000001 ∷ []) → ⊥
+unfolding cellOf distributions
+rising-start none = let no : 390625000001 ≤ 390625000000 = none 2 1 (omega arith) (omega arith) (omega arith) in omega (arith, no)
+
+pub rising-block :
+    NoBlockRises (accepted 16) fileB (1 ∷ 2 ∷ []) (718750000000 ∷ 612500000000 ∷ 281250000000 ∷ 175000000000 ∷ 628571428571 ∷ 628571428572 ∷ 371428571428 ∷ 219047619047 ∷ [])
+    → ⊥
+unfolding cellOf distributions
+rising-block none = let no : 628571428572 ≤ 628571428571 = none 1 (omega arith) 0 1 (omega arith) (omega arith) (omega arith) in omega (arith, no)
+
+-- B with the reward rate 1 for both states: every moment is 1. The rows do not rise, and the moment for r + 1 is not below that for r: "strictly below" is
+-- false.
+abbrev pub evenB : List ℕ
+evenB = set fileB 20 1
+
+abbrev pub evenRun : Run
+evenRun = record { level = 3; means = 12 }
+
+pub even-cells : (outcome evenB 4 ≡ accepted evenRun) × (cellsAfter (accepted evenRun) evenB (replicate 4 0) ≡ replicate 4 ONE)
+unfolding sum largest anyAbove firsts over big distributions jumpRate rowSum uniformRate c maxReward jumpMillionths framing quantities jumps room rows firstHeld rowMean rewardShare mix nextEntry firstVectors nextVectors U rowMeans mode rightward leftward weight weightSum tailBound allowance passes? firstFrom level term weighted nearest lastQuotient weightedMean moment figureOf cell modelLevel outcome cellsAfter
+even-cells = (refl, refl)
+
+pub level-rows : NoRise (modelOf evenB) (replicate 4 ONE)
+unfolding cellOf distributions
+level-rows i r l low high =
+    let one : r ≡ 1 = omega arith in
+    elim (ℕ-discrete i 0) [
+      | yes first ↦ rw (first, one) (omega arith)
+      | no other ↦ let second : i ≡ 1 = omega (arith, other) in rw (second, one) (omega arith)
+    ]
+
+pub not-strictly : ((i r : ℕ) → i < 2 → 1 ≤ r → r < 2 → getD (replicate 4 ONE) (cellOf (modelOf evenB) i (r + 1)) 0 < getD (replicate 4 ONE) (cellOf (modelOf evenB) i r) 0) → ⊥
+unfolding cellOf
+not-strictly below = let no : ONE < ONE = below 0 1 (omega arith) (omega arith) (omega arith) in omega (arith, no)
+
+-- B with the reward rate 4,294,901,244 for its second state, its bytes FF FE FD FC; in version 2 it stands after the weights
+pub reward-in-B : withReward fileB 1 0xFFFEFDFC ≡ set (set (set (set fileB 17 0xFF) 18 0xFE) 19 0xFD) 20 0xFC
+unfolding bytesOf distributions withReward
+reward-in-B = refl
+
+pub reward-in-start : withReward startB 0 0x00010203 ≡ set (set (set (set startB 21 0x00) 22 0x01) 23 0x02) 24 0x03
+unfolding bytesOf distributions withReward
+reward-in-start = refl
+
+-- the second reward rate of B may be raised from 0 to 1; not past it. The first may not be lowered, and there is no third state.
+pub raises-to-largest : Raises fileB 1 0 × Raises fileB 1 1
+unfolding largest big distributions maxReward
+raises-to-largest = (record { state = omega arith; from = omega arith; to = omega arith }, record { state = omega arith; from = omega arith; to = omega arith })
+
+pub raises-past : Raises fileB 1 2 → ⊥
+unfolding largest big distributions maxReward
+raises-past h = omega (arith, h .to)
+
+pub raises-down : Raises fileB 0 0 → ⊥
+unfolding largest big distributions maxReward
+raises-down h = omega (arith, h .from)
+
+pub raises-none : Raises fileB 2 1 → ⊥
+raises-none h = omega (arith, h .state)
+
+-- raised to 1, it lowers no cell, and raises all four; what is lent past them is the same
+pub raised-B : NoLower (withReward fileB 1 1) evenRun (replicate 5 7) (718750000000 ∷ 612500000000 ∷ 281250000000 ∷ 175000000000 ∷ 7 ∷ [])
+unfolding sum largest anyAbove firsts over big bytesOf distributions withReward jumpRate rowSum uniformRate c maxReward jumpMillionths framing quantities jumps room rows firstHeld rowMean rewardShare mix nextEntry firstVectors nextVectors U rowMeans mode rightward leftward weight weightSum tailBound allowance passes? firstFrom level term weighted nearest lastQuotient weightedMean moment figureOf cell modelLevel outcome cellsAfter
+raised-B = record { same-run = refl; no-lower = each }
+  where
+    each : (k : ℕ) → getD (718750000000 ∷ 612500000000 ∷ 281250000000 ∷ 175000000000 ∷ 7 ∷ []) k 0 ≤ getD (replicate 4 ONE ++ 7 ∷ []) k 0
+    each zero = omega arith
+    each (suc zero) = omega arith
+    each (suc (suc zero)) = omega arith
+    each (suc (suc (suc zero))) = omega arith
+    each (suc (suc (suc (suc zero)))) = omega arith
+    each (suc (suc (suc (suc (suc k))))) = omega arith
+
+-- raised past the largest, to 2, it lowers the moments of the first state, as F is 2 then: "raising a reward rate lowers no moment" is false without the condition
+pub past-B :
+    (outcome (withReward fileB 1 2) 4 ≡ accepted evenRun)
+    × (cellsAfter (accepted evenRun) (withReward fileB 1 2) (replicate 4 0) ≡ 640625000000 ∷ 434375000000 ∷ 859375000000 ∷ 762500000000 ∷ [])
+unfolding sum largest anyAbove firsts over big bytesOf distributions withReward jumpRate rowSum uniformRate c maxReward jumpMillionths framing quantities jumps room rows firstHeld rowMean rewardShare mix nextEntry firstVectors nextVectors U rowMeans mode rightward leftward weight weightSum tailBound allowance passes? firstFrom level term weighted nearest lastQuotient weightedMean moment figureOf cell modelLevel outcome cellsAfter
+past-B = (refl, refl)
+
+pub past-lowers : NoLower (withReward fileB 1 2) evenRun (replicate 4 0) (718750000000 ∷ 612500000000 ∷ 281250000000 ∷ 175000000000 ∷ []) → ⊥
+past-lowers h = omega (arith, h .no-lower 0, ap (λ (l : List ℕ). getD l 0 0) (past-B .1))
