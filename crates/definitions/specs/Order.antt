@@ -6,9 +6,9 @@ use mathlib.Core.Path.{_≡_}
 use lib.ListN.{length, getD}
 use Rattle.definitions.specs.declared.Run.{Run}
 use Rattle.definitions.specs.File.{stateCount, rewardField, withReward}
-use Rattle.definitions.specs.Chain.{Model, modelOf, maxReward}
+use Rattle.definitions.specs.Chain.{Model, modelOf, atReward, maxReward}
 use Rattle.definitions.specs.Rules.{Answer, accepted, refused}
-use Rattle.definitions.specs.Moment.{cellOf, outcome, cellsAfter}
+use Rattle.definitions.specs.Moment.{moment, startFigure, cellOf, modelLevel, outcome, cellsAfter}
 use Rattle.definitions.specs.Series.{block, seriesOutcome, levelsAfter, blocksAfter}
 
 -- in the rows of a block, one for each state and one for the starting distribution where there is one, the figure for r + 1 is at most that for r
@@ -25,6 +25,12 @@ NoneRises (refused k) s cells = Unit {0}
 abbrev pub NoBlockRises : Answer ℕ → List ℕ → List ℕ → List ℕ → Type 0
 NoBlockRises (accepted n) s times cells = (k : ℕ) → k < length times → NoRise (modelOf s) (block s cells k)
 NoBlockRises (refused k) s times cells = Unit {0}
+
+-- the model m with the reward rate x for state i: the level is the same, and no moment and no start figure is lower, whatever the level
+pub record NoLowerFigures (m : Model) (i x : ℕ) : Type 0 where
+  pub same-level : modelLevel (atReward m i x) ≡ modelLevel m
+  pub moments : (N r j : ℕ) → j < m .states → moment m N r j ≤ moment (atReward m i x) N r j
+  pub starts : (N r : ℕ) → startFigure m N r ≤ startFigure (atReward m i x) N r
 
 -- x is a reward rate for state i of the file s: from its own to the largest of the file
 pub record Raises (s : List ℕ) (i x : ℕ) : Type 0 where

@@ -7,16 +7,17 @@ use mathlib.Core.List.{List, [], _∷_, _++_}
 use mathlib.Core.Path.{_≡_, refl, ap}
 use lib.ListN.{getD, set, replicate}
 use Rattle.definitions.specs.declared.Run.{Run}
-use Rattle.definitions.specs.Sums.{sum, largest, anyAbove, firsts, over}
+use Rattle.definitions.specs.Sums.{sum, largest, anyAbove, firsts, over, blocks}
 use Rattle.definitions.specs.Bytes.{big, bytesOf}
-use Rattle.definitions.specs.File.{distributions, withReward}
-use Rattle.definitions.specs.Chain.{Model, modelOf, jumpRate, rowSum, uniformRate, c, maxReward, jumpMillionths}
-use Rattle.definitions.specs.Rules.{accepted, framing, quantities, jumps, room, rows, firstHeld}
+use Rattle.definitions.specs.File.{distributions, rewardField, withReward}
+use Rattle.definitions.specs.Chain.{modelOf, atReward, jumpRate, rowSum, uniformRate, c, maxReward, jumpMillionths}
+use Rattle.definitions.specs.Rules.{accepted, framing, quantities, fallsUpTo, listing, jumps, room, rows, seriesRows, firstHeld}
 use Rattle.definitions.specs.Vectors.{ONE, rowMean, rewardShare, mix, nextEntry, firstVectors, nextVectors, U, rowMeans}
 use Rattle.definitions.specs.Weights.{mode, rightward, leftward, weight, weightSum}
 use Rattle.definitions.specs.Level.{tailBound, allowance, passes?, firstFrom, level}
 use Rattle.definitions.specs.Moment.{term, weighted, nearest, lastQuotient, weightedMean, moment, cellOf, figureOf, cell, modelLevel, outcome, cellsAfter}
-use Rattle.definitions.specs.Order.{NoRise, NoBlockRises, Raises, NoLower}
+use Rattle.definitions.specs.Series.{levelAt, seriesOutcome, levelsAfter, blocksAfter}
+use Rattle.definitions.specs.Order.{NoRise, NoBlockRises, Raises, NoLower, NoLowerBlocks}
 use Rattle.definitions.specs.HandChecked.{fileB, modelB}
 use Rattle.definitions.specs.StartChecked.{startB}
 
@@ -83,6 +84,11 @@ pub reward-in-start : withReward startB 0 0x00010203 ≡ set (set (set (set star
 unfolding bytesOf distributions withReward
 reward-in-start = refl
 
+-- a model has the reward rate at that state alone, as the file has
+pub reward-at-one : (firsts 2 (atReward modelB 1 5 .reward) ≡ 1 ∷ 5 ∷ []) × (firsts 2 (rewardField (withReward fileB 1 5)) ≡ 1 ∷ 5 ∷ [])
+unfolding firsts big bytesOf distributions withReward
+reward-at-one = (refl, refl)
+
 -- the second reward rate of B may be raised from 0 to 1; not past it. The first may not be lowered, and there is no third state.
 pub raises-to-largest : Raises fileB 1 0 × Raises fileB 1 1
 unfolding largest big distributions maxReward
@@ -121,3 +127,10 @@ past-B = (refl, refl)
 
 pub past-lowers : NoLower (withReward fileB 1 2) evenRun (replicate 4 0) (718750000000 ∷ 612500000000 ∷ 281250000000 ∷ 175000000000 ∷ []) → ⊥
 past-lowers h = omega (arith, h .no-lower 0, ap (λ (l : List ℕ). getD l 0 0) (past-B .1))
+
+-- the same of a list of times, in its first block
+pub past-blocks :
+    NoLowerBlocks (withReward fileB 1 2) (1 ∷ 2 ∷ []) 16 (replicate 2 0) (3 ∷ 4 ∷ []) (replicate 8 0) (718750000000 ∷ 612500000000 ∷ 281250000000 ∷ 175000000000 ∷ 628571428571 ∷ 476190476190 ∷ 371428571428 ∷ 219047619047 ∷ [])
+    → ⊥
+unfolding sum largest anyAbove firsts over blocks big bytesOf distributions withReward jumpRate rowSum uniformRate c maxReward jumpMillionths framing quantities fallsUpTo listing jumps room seriesRows firstHeld rowMean rewardShare mix nextEntry firstVectors nextVectors U rowMeans mode rightward leftward weight weightSum tailBound allowance passes? firstFrom level term weighted nearest lastQuotient weightedMean moment figureOf cell modelLevel levelAt seriesOutcome levelsAfter blocksAfter
+past-blocks h = let no : 718750000000 ≤ 640625000000 = h .no-lower 0 in omega (arith, no)

@@ -14,9 +14,10 @@ use Rattle.definitions.specs.Sums.{sum, largest, over}
 use Rattle.definitions.specs.Chain.{Model, modelOf, jumpRate, rowSum, uniformRate, c, maxReward, jumpMillionths, chainOf, atTime, atReward, blockOf}
 use Rattle.definitions.specs.Rules.{accepted, blockSize}
 use Rattle.definitions.specs.Level.{level}
+use Rattle.definitions.specs.Vectors.{U}
 use Rattle.definitions.specs.Moment.{moment, startMean, startFigure, cellOf, figureOf, cell, modelLevel, cellsAfter}
 use Rattle.definitions.specs.Series.{modelAt, levelAt, blocksAfter, block}
-use Rattle.definitions.specs.Order.{NoRise, NoneRises, NoBlockRises}
+use Rattle.definitions.specs.Order.{NoRise, NoneRises, NoBlockRises, NoLowerFigures}
 use Rattle.laws.specs.SumLaws.{sum-same, le-largest, largest-le, largest-same}
 use Rattle.laws.specs.BlockLaws.{block-is}
 use Rattle.laws.specs.ChainLaws.{Raised, reward-le-largest}
@@ -28,7 +29,9 @@ use Rattle.laws.specs.StartLaws.{mean-mono}
 -- from each state, whatever the level
 pub moment-falls : (m : Model) (N r i : ℕ) → i < m .states → moment m N (suc r) i ≤ moment m N r i
 unfolding moment
-moment-falls m N r i l = weighted-mean-mono (jumpMillionths m) N _ _ (λ n h. U-falls (chainOf m) (stochastic m) n r i l)
+moment-falls m N r i l =
+    let u : ℕ → ℕ → ℕ = λ r n. U (chainOf m) n r i in
+    omega (arith, weighted-mean-mono (jumpMillionths m) N (u (suc r)) (u r) (λ n h. U-falls (chainOf m) (stochastic m) n r i l))
 
 -- whatever the starting weights
 pub start-falls : (m : Model) (N r : ℕ) → startFigure m N (suc r) ≤ startFigure m N r
@@ -79,7 +82,7 @@ module _ (a b : Model) (e : RaisedModel a b) where
   largest-kept =
       le-antisymm
       (largest-le (a .states) (maxReward b) (a .reward) (λ i l. omega (arith, e .no-lower i l, le-largest (b .states) (b .reward) i (omega (arith, e .states)))))
-      (largest-le (b .states) (maxReward a) (b .reward) (λ i l. e .not-past i (omega (arith, e .states))))
+      (largest-le (b .states) (maxReward a) (b .reward) (λ i l. omega (arith, e .not-past i (omega (arith, e .states)))))
 
   -- so are the row sums, E and c
   jump-kept : (i j : ℕ) → i < a .states → j < a .states → jumpRate a i j ≡ jumpRate b i j
@@ -170,4 +173,15 @@ one-raised m i x low high =
       no-lower = λ j l. elim (ℕ-discrete j i) [ yes same ↦ rw (eq-eqb j i same) (omega (arith, low, ap (m .reward) same)) | no other ↦ rw (ne-eqb j i other) (le-refl (m .reward j)) ];
       not-past = λ j l. elim (ℕ-discrete j i) [ yes same ↦ rw (eq-eqb j i same) high | no other ↦ rw (ne-eqb j i other) (reward-le-largest m j l) ];
       transition = λ j k lj lk other. refl;
+    }
+
+-- document 02's sentence, of models: it has the same level, and no lower figure
+pub reward-raised : (m : Model) (i x : ℕ) → m .reward i ≤ x → x ≤ maxReward m → NoLowerFigures m i x
+unfolding startFigure
+reward-raised m i x low high =
+    let e = one-raised m i x low high in
+    record {
+      same-level = sym (level-kept m (atReward m i x) e);
+      moments = moment-no-lower m (atReward m i x) e;
+      starts = λ N r. mean-mono (m .states) (m .start) (m .start) (moment m N r) (moment (atReward m i x) N r) (λ j l. le-refl (m .start j)) (moment-no-lower m (atReward m i x) e N r);
     }
