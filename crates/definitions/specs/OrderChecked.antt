@@ -34,21 +34,21 @@ falling-B i r l low high =
 -- a row that rises is found at either state, in the start's row, and in the second block of a list of times
 pub rising-first : NoRise modelB (718750000000 ∷ 718750000001 ∷ 281250000000 ∷ 175000000000 ∷ []) → ⊥
 unfolding cellOf distributions
-rising-first none = let no : 718750000001 ≤ 718750000000 = none 0 1 (omega arith) (omega arith) (omega arith) in omega (arith, no)
+rising-first none = omega (arith, none 0 1 (omega arith) (omega arith) (omega arith))
 
 pub rising-last : NoRise modelB (718750000000 ∷ 612500000000 ∷ 281250000000 ∷ 281250000001 ∷ []) → ⊥
 unfolding cellOf distributions
-rising-last none = let no : 281250000001 ≤ 281250000000 = none 1 1 (omega arith) (omega arith) (omega arith) in omega (arith, no)
+rising-last none = omega (arith, none 1 1 (omega arith) (omega arith) (omega arith))
 
 pub rising-start : NoRise (modelOf startB) (718750000000 ∷ 612500000000 ∷ 281250000000 ∷ 175000000000 ∷ 390625000000 ∷ 390625000001 ∷ []) → ⊥
 unfolding cellOf distributions
-rising-start none = let no : 390625000001 ≤ 390625000000 = none 2 1 (omega arith) (omega arith) (omega arith) in omega (arith, no)
+rising-start none = omega (arith, none 2 1 (omega arith) (omega arith) (omega arith))
 
 pub rising-block :
     NoBlockRises (accepted 16) fileB (1 ∷ 2 ∷ []) (718750000000 ∷ 612500000000 ∷ 281250000000 ∷ 175000000000 ∷ 628571428571 ∷ 628571428572 ∷ 371428571428 ∷ 219047619047 ∷ [])
     → ⊥
 unfolding cellOf distributions
-rising-block none = let no : 628571428572 ≤ 628571428571 = none 1 (omega arith) 0 1 (omega arith) (omega arith) (omega arith) in omega (arith, no)
+rising-block none = omega (arith, none 1 (omega arith) 0 1 (omega arith) (omega arith) (omega arith))
 
 -- B with the reward rate 1 for both states: every moment is 1. The rows do not rise, and the moment for r + 1 is not below that for r: "strictly below" is
 -- false.
@@ -73,7 +73,7 @@ level-rows i r l low high =
 
 pub not-strictly : ((i r : ℕ) → i < 2 → 1 ≤ r → r < 2 → getD (replicate 4 ONE) (cellOf (modelOf evenB) i (r + 1)) 0 < getD (replicate 4 ONE) (cellOf (modelOf evenB) i r) 0) → ⊥
 unfolding cellOf
-not-strictly below = let no : ONE < ONE = below 0 1 (omega arith) (omega arith) (omega arith) in omega (arith, no)
+not-strictly below = omega (arith, below 0 1 (omega arith) (omega arith) (omega arith))
 
 -- B with the reward rate 4,294,901,244 for its second state, its bytes FF FE FD FC; in version 2 it stands after the weights
 pub reward-in-B : withReward fileB 1 0xFFFEFDFC ≡ set (set (set (set fileB 17 0xFF) 18 0xFE) 19 0xFD) 20 0xFC
@@ -133,4 +133,4 @@ pub past-blocks :
     NoLowerBlocks (withReward fileB 1 2) (1 ∷ 2 ∷ []) 16 (replicate 2 0) (3 ∷ 4 ∷ []) (replicate 8 0) (718750000000 ∷ 612500000000 ∷ 281250000000 ∷ 175000000000 ∷ 628571428571 ∷ 476190476190 ∷ 371428571428 ∷ 219047619047 ∷ [])
     → ⊥
 unfolding sum largest anyAbove firsts over blocks big bytesOf distributions withReward jumpRate rowSum uniformRate c maxReward jumpMillionths framing quantities fallsUpTo listing jumps room seriesRows firstHeld rowMean rewardShare mix nextEntry firstVectors nextVectors U rowMeans mode rightward leftward weight weightSum tailBound allowance passes? firstFrom level term weighted nearest lastQuotient weightedMean moment figureOf cell modelLevel levelAt seriesOutcome levelsAfter blocksAfter
-past-blocks h = let no : 718750000000 ≤ 640625000000 = h .no-lower 0 in omega (arith, no)
+past-blocks h = omega (arith, h .no-lower 0)

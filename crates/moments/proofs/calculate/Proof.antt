@@ -6,6 +6,7 @@ use Rattle.definitions.specs.Chain.{modelOf}
 use Rattle.definitions.specs.Rules.{accepted, judgement, verdict}
 use Rattle.definitions.specs.Moment.{cellsAfter, LevelBounded}
 use Rattle.definitions.specs.Promise.{Promised}
+use Rattle.definitions.specs.Order.{NoRise}
 use Rattle.laws.specs.Acceptance.{accepted-file}
 use Rattle.laws.specs.MomentLaws.{outcome-refused, outcome-accepted, level-bounded}
 use Rattle.laws.specs.Demand3.{demand3}
@@ -32,7 +33,7 @@ returns-2 c =
     let promised = subst (λ (x : Run). Promised (accepted x) s (cellsAfter (accepted x) s cells)) (sym run) (demand3 s cells passed) in
     let bounded = subst (λ (x : Run). LevelBounded (accepted (x .level)) s) (sym run) (level-bounded (modelOf s) (accepted-file s (length cells) passed .model .limits)) in
     let answer = ap accepted run ∙ sym (outcome-accepted s (length cells) passed) in
-    (answer, (after, (rw after promised, (bounded, (rw after (none-rises s cells _), rw after (none-lowered s cells _ (sym answer)))))))
+    (answer, (after, (rw after promised, (bounded, (subst (NoRise (modelOf s)) (sym after) (none-rises s cells _), rw after (none-lowered s cells _ (sym answer)))))))
 
 pub calculate-spec : {M : Type 1} → statement M
 calculate-spec =
