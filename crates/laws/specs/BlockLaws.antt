@@ -9,10 +9,10 @@ use lib.ListN.{length, getD, take, drop, length-take, length-drop, take-append-d
 use lib.Seq.{take-at, drop-at, drop-drop, drop-append-le, getD-take, getD-drop, ext-getD, length-take-le}
 use Rattle.definitions.specs.Sums.{firsts, over, blocks}
 use Rattle.laws.specs.Rounding.{quotient-below, quotient-remainder, remainder-below, row-of-place, place-in-row, place-below}
-use Rattle.laws.specs.ListLaws.{length-firsts, firsts-same, length-over, getD-over, getD-over-past, over-none, over-same, over-kept, over-again}
+use Rattle.laws.specs.ListLaws.{length-firsts, firsts-same, length-over, getD-over, getD-over-past, over-none, over-same, over-mono, over-kept, over-again}
 
 -- where there is a place in a number of blocks, a block has a size
-pub some-size : (p count size : ℕ) → p < count * size → 0 < size
+some-size : (p count size : ℕ) → p < count * size → 0 < size
 some-size p count size h = elim (decLt 0 size) [ yes pos ↦ pos | no q ↦ absurd (let none : size ≡ 0 = omega (arith, q) in omega (arith, rw none at h)) ]
 
 -- the blocks up to block k end by the end of all blocks
@@ -131,3 +131,10 @@ module _ {A : Type 0} where
       where
         whole : (x : List A) → k * size + size ≤ length x → length (take size (drop (k * size) x)) ≡ size
         whole x enough = length-take-le size (drop (k * size) x) (omega (arith, enough, length-drop (k * size) x))
+
+-- no lower numbers in the blocks leave no entry lower
+pub blocks-mono : (size count : ℕ) (f g : ℕ → ℕ → ℕ) (l : List ℕ) → ((k c : ℕ) → k < count → c < size → f k c ≤ g k c) → (p : ℕ) → getD (blocks size count f l) p 0 ≤ getD (blocks size count g l) p 0
+unfolding blocks
+blocks-mono size count f g l h =
+    over-mono (count * size) (λ p. f (p / size) (p % size)) (λ p. g (p / size) (p % size)) l
+    (λ p b. h (p / size) (p % size) (quotient-below p count size b) (remainder-below p size (some-size p count size b)))

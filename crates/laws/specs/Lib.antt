@@ -11,6 +11,7 @@ pub mod ChainLaws
 pub mod ArrayLaws
 pub mod RuleLaws
 pub mod RowLaws
+pub mod FrameLaws
 pub mod FileLaws
 pub mod VectorLaws
 pub mod ArrowLaws

@@ -1,4 +1,4 @@
--- HoldsRows whose first entries are given by a function, over the type of the entries.
+-- Lists whose first entries are given by a function, over the type of the entries.
 use Prim.Native.Nat.{ℕ, zero, suc, _+_, _-_, _≤_, _<_}
 use native.Mathlib.Omega.{arith}
 use native.Mathlib.Numerals.{add-one}
@@ -123,3 +123,11 @@ module _ {A : Type 0} where
                 ∙ getD-over-past d n f l i (omega (arith, p))
                 ∙ sym (getD-over-past d k g l i (omega (arith, p)))
           ]
+
+-- no lower numbers in the first entries leave no entry lower
+pub over-mono : (n : ℕ) (f g : ℕ → ℕ) (l : List ℕ) → ((i : ℕ) → i < n → f i ≤ g i) → (k : ℕ) → getD (over n f l) k 0 ≤ getD (over n g l) k 0
+over-mono n f g l h k =
+    elim (decLt k n) [
+      | yes b ↦ omega (arith, getD-over 0 n f l k b, getD-over 0 n g l k b, h k b)
+      | no p ↦ omega (arith, getD-over-past 0 n f l k (omega (arith, p)), getD-over-past 0 n g l k (omega (arith, p)))
+    ]

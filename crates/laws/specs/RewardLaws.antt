@@ -1,30 +1,29 @@
 -- Document 02, S-9, of files: with one reward rate raised, but not past the largest, a file is answered the same, and no cell is left lower; for its own time
 -- and for a list of times.
-use Prim.Native.Nat.{ℕ, suc, _+_, _*_, _-_, _/_, _%_, _≤_, _<_, _^_}
+use Prim.Native.Nat.{ℕ, _+_, _*_, _-_, _≤_, _<_, _^_}
 use native.Mathlib.Omega.{arith}
-use native.Mathlib.Nat.{le-refl, mul-le-mul, mul-le-mul-right}
-use native.Mathlib.Numerals.{add-one}
+use native.Mathlib.Nat.{mul-le-mul-right}
 use native.Mathlib.Decide.{decLt, ℕ-discrete}
 use mathlib.Core.Path.{_≡_, refl, sym, _∙_, ap, ap₂}
-use mathlib.Core.Bool.{Bool, not, _&&_}
+use mathlib.Core.Bool.{not}
 use mathlib.Core.List.{List, [], _++_}
 use lib.ListN.{length, getD}
 use lib.Dec.{ltb, eqb}
 use Rattle.definitions.specs.declared.Run.{Run}
-use Rattle.definitions.specs.Sums.{sum, largest, anyAbove, over, blocks}
+use Rattle.definitions.specs.Sums.{sum, largest, anyAbove}
 use Rattle.definitions.specs.Bytes.{big}
-use Rattle.definitions.specs.File.{lengthField, version, stateCount, highestMoment, toleranceField, timeField, distributions, weightField, rewardsAt, rewardField, withReward, place, rowAt, rateField}
-use Rattle.definitions.specs.Chain.{Model, modelOf, atTime, rowSum, uniformRate, maxReward, blockOf}
-use Rattle.definitions.specs.Rules.{Rows, accepted, misweighted, framing, quantities, listing, lastTime, jumps, room, blockSize, fileRows, rows, seriesRows, firstHeld, judgement}
+use Rattle.definitions.specs.File.{stateCount, distributions, weightField, rewardsAt, rewardField, withReward, place, rowAt, rateField}
+use Rattle.definitions.specs.Chain.{Model, modelOf, rowSum, maxReward}
+use Rattle.definitions.specs.Rules.{Rows, accepted, misweighted, framing, quantities, listing, lastTime, jumps, room, blockSize, rows, seriesRows, firstHeld}
 use Rattle.definitions.specs.Vectors.{rowMeans}
-use Rattle.definitions.specs.Moment.{cell, modelLevel, runOf, outcome, cellsAfter}
-use Rattle.definitions.specs.Series.{modelAt, levelAt, meansOfAll, seriesOutcome, levelsAfter, blocksAfter, block}
-use Rattle.definitions.specs.Order.{Raises, NoLower, NoneLowered, NoLowerBlocks, NoBlockLowered}
+use Rattle.definitions.specs.Moment.{cell, runOf, outcome, cellsAfter}
+use Rattle.definitions.specs.Series.{modelAt, levelAt, meansOfAll, seriesOutcome, levelsAfter, blocksAfter}
+use Rattle.definitions.specs.Order.{Raises, NoneLowered, NoBlockLowered}
 use Rattle.laws.specs.SumLaws.{sum-same, any-largest, largest-same}
-use Rattle.laws.specs.ListLaws.{getD-over, getD-over-past, over-same}
+use Rattle.laws.specs.ListLaws.{over-same, over-mono}
 use Rattle.laws.specs.ByteLaws.{big-stored, length-stored, byte-before, number-before, number-after}
-use Rattle.laws.specs.Rounding.{remainder-below}
-use Rattle.laws.specs.BlockLaws.{some-size}
+use Rattle.laws.specs.BlockLaws.{blocks-mono}
+use Rattle.laws.specs.FrameLaws.{SameFrame, states-same, highest-same, distributions-same, framing-same}
 use Rattle.laws.specs.ChainLaws.{reward-le-largest}
 use Rattle.laws.specs.RowLaws.{no-start, with-start}
 use Rattle.laws.specs.Acceptance.{Framed, accepted-file, accepted-series}
@@ -91,16 +90,7 @@ module _ (s t : List ℕ) (frame : framing 1 2 t ≡ framing 1 2 s) (e : RaisedM
   -- and of the same cells leaves none lower
   pub cells-no-lower : (run : Run) (cells : List ℕ) (k : ℕ) → getD (cellsAfter (accepted run) s cells) k 0 ≤ getD (cellsAfter (accepted run) t cells) k 0
   unfolding cellsAfter
-  cells-no-lower run cells k =
-      let N : ℕ = run .level in
-      elim (decLt k (blockSize s)) [
-        | yes l ↦
-            omega
-            (arith, getD-over 0 (blockSize s) (cell (modelOf s) N) cells k l, getD-over 0 (blockSize t) (cell (modelOf t) N) cells k (omega (arith, block-kept)), cell-no-lower (modelOf s) (modelOf t) e N k l)
-        | no past ↦
-            omega
-            (arith, getD-over-past 0 (blockSize s) (cell (modelOf s) N) cells k (omega (arith, past)), getD-over-past 0 (blockSize t) (cell (modelOf t) N) cells k (omega (arith, past, block-kept)))
-      ]
+  cells-no-lower run cells = rw block-kept (over-mono (blockSize s) (cell (modelOf s) (run .level)) (cell (modelOf t) (run .level)) cells (cell-no-lower (modelOf s) (modelOf t) e (run .level)))
 
   -- for a list of times: each level is the same
   at-time : (times : List ℕ) (k : ℕ) → RaisedModel (modelAt s times k) (modelAt t times k)
@@ -135,22 +125,11 @@ module _ (s t : List ℕ) (frame : framing 1 2 t ≡ framing 1 2 s) (e : RaisedM
 
   -- and no cell of a block is left lower
   pub blocks-no-lower : (n : ℕ) (times cells : List ℕ) (k : ℕ) → getD (blocksAfter (accepted n) s times cells) k 0 ≤ getD (blocksAfter (accepted n) t times cells) k 0
-  unfolding blocksAfter blocks
-  blocks-no-lower n times cells k = rw block-kept (from (decLt k (length times * blockSize s)))
-    where
-      figure : List ℕ → ℕ → ℕ
-      figure x p = cell (modelAt x times (p / blockSize s)) (levelAt x times (p / blockSize s)) (p % blockSize s)
-
-      from : Dec (k < length times * blockSize s) → getD (over (length times * blockSize s) (figure s) cells) k 0 ≤ getD (over (length times * blockSize s) (figure t) cells) k 0
-      from (yes l) =
-          let j : ℕ = k / blockSize s in
-          let inside : k % blockSize s < blockSize s = remainder-below k (blockSize s) (some-size k (length times) (blockSize s) l) in
-          let same = ap (λ (N : ℕ). cell (modelAt t times j) N (k % blockSize s)) (level-at-kept times j) in
-          rw (getD-over 0 (length times * blockSize s) (figure s) cells k l, getD-over 0 (length times * blockSize s) (figure t) cells k l)
-          (omega (arith, same, cell-no-lower (modelAt s times j) (modelAt t times j) (at-time times j) (levelAt s times j) (k % blockSize s) inside))
-      from (no past) =
-          omega
-          (arith, getD-over-past 0 (length times * blockSize s) (figure s) cells k (omega (arith, past)), getD-over-past 0 (length times * blockSize s) (figure t) cells k (omega (arith, past)))
+  unfolding blocksAfter
+  blocks-no-lower n times cells =
+      rw block-kept
+      (blocks-mono (blockSize s) (length times) (λ k. cell (modelAt s times k) (levelAt s times k)) (λ k. cell (modelAt t times k) (levelAt t times k)) cells
+      (λ k c h b. rw (← level-at-kept times k) (cell-no-lower (modelAt s times k) (modelAt t times k) (at-time times k) (levelAt s times k) c b)))
 
 -- the framed file s with a reward rate x, from its own to the largest, for state i: it fits its four bytes
 module _ (s : List ℕ) (framed : Framed s) (i x : ℕ) (raises : Raises s i x) (fits : x < 2 ^ 32) where
@@ -161,36 +140,19 @@ module _ (s : List ℕ) (framed : Framed s) (i x : ℕ) (raises : Raises s i x) 
   inside = omega (arith, framed .size, raises .state, mul-le-mul-right (stateCount s) (framed .states-min))
 
   -- the header is as it was
-  byte-kept : (k : ℕ) → k < 13 → getD (withReward s i x) k 0 ≡ getD s k 0
+  pub frame-kept : SameFrame s (withReward s i x)
   unfolding withReward
-  byte-kept k h = byte-before 4 x s at k (omega arith)
+  frame-kept = record { size = length-stored 4 x s at; first = λ k h. byte-before 4 x s at k (omega arith) }
 
-  number-kept : (width k : ℕ) → k + width ≤ 13 → big width (withReward s i x) k ≡ big width s k
+  number-kept : (k : ℕ) → k + 4 ≤ 13 → big 4 (withReward s i x) k ≡ big 4 s k
   unfolding withReward
-  number-kept width k h = number-before 4 x s at width k (omega arith)
-
-  length-kept : length (withReward s i x) ≡ length s
-  unfolding withReward
-  length-kept = length-stored 4 x s at
+  number-kept k h = number-before 4 x s at 4 k (omega arith)
 
   states-kept : stateCount (withReward s i x) ≡ stateCount s
-  states-kept = byte-kept 3 (omega arith)
-
-  highest-kept : highestMoment (withReward s i x) ≡ highestMoment s
-  highest-kept = byte-kept 4 (omega arith)
-
-  distributions-kept : distributions (withReward s i x) ≡ distributions s
-  unfolding distributions
-  distributions-kept = rw (byte-kept 2 (omega arith)) refl
-
-  -- rows 1 to 6 read nothing else
-  pub framing-kept : (low high : ℕ) → framing low high (withReward s i x) ≡ framing low high s
-  unfolding framing
-  framing-kept low high =
-      rw (length-kept, states-kept, highest-kept, distributions-kept, number-kept 2 0 (omega arith), byte-kept 2 (omega arith)) refl
+  states-kept = states-same s (withReward s i x) frame-kept
 
   rewards-kept : rewardsAt (withReward s i x) ≡ rewardsAt s
-  rewards-kept = rw (states-kept, distributions-kept) refl
+  rewards-kept = rw (states-kept, distributions-same s (withReward s i x) frame-kept) refl
 
   -- the weights stand before the reward
   weight-kept : (j : ℕ) → j < distributions s * stateCount s → weightField s j ≡ weightField (withReward s i x) j
@@ -222,10 +184,10 @@ module _ (s : List ℕ) (framed : Framed s) (i x : ℕ) (raises : Raises s i x) 
   file-raised =
       record {
         states = sym states-kept;
-        highest = sym highest-kept;
-        tolerance = sym (number-kept 4 5 (omega arith));
-        time = sym (number-kept 4 9 (omega arith));
-        distributions = sym distributions-kept;
+        highest = sym (highest-same s (withReward s i x) frame-kept);
+        tolerance = sym (number-kept 5 (omega arith));
+        time = sym (number-kept 9 (omega arith));
+        distributions = sym (distributions-same s (withReward s i x) frame-kept);
         start = λ some j l. weight-kept j (omega (arith, l, mul-le-mul-right (stateCount s) some));
         no-lower = λ j l. elim (ℕ-discrete j i) [ yes same ↦ rw (same, reward-is) (raises .from) | no other ↦ omega (arith, reward-kept j other) ];
         not-past = λ j l. elim (ℕ-discrete j i) [ yes same ↦ rw (same, reward-is) (raises .to) | no other ↦ omega (arith, reward-kept j other, reward-le-largest (modelOf s) j l) ];
@@ -237,7 +199,7 @@ pub none-lowered : (s cells : List ℕ) (run : Run) → outcome s (length cells)
 none-lowered s cells run e i x raises =
     let f = accepted-file s (length cells) (run-judged s (length cells) run e) .model in
     let fits : x < 2 ^ 32 = omega (arith, raises .to, f .limits .rewards-max) in
-    let frame = framing-kept s (f .framed) i x raises fits 1 2 in
+    let frame = framing-same s (withReward s i x) (frame-kept s (f .framed) i x raises fits) 1 2 in
     let raised = file-raised s (f .framed) i x raises fits in
     record { same-run = outcome-kept s (withReward s i x) frame raised (length cells) ∙ e; no-lower = cells-no-lower s (withReward s i x) frame raised run cells }
 
@@ -247,7 +209,7 @@ no-block-lowered s times levels cells n e i x raises =
     let f = accepted-series s times (length levels) (length cells) (series-judged s times (length levels) (length cells) n e) in
     let t : List ℕ = withReward s i x in
     let fits : x < 2 ^ 32 = omega (arith, raises .to, f .limits 0 (f .count-min) .rewards-max) in
-    let frame = framing-kept s (f .framed) i x raises fits 1 2 in
+    let frame = framing-same s (withReward s i x) (frame-kept s (f .framed) i x raises fits) 1 2 in
     let raised = file-raised s (f .framed) i x raises fits in
     record {
       same-count = series-kept s t frame raised times (length levels) (length cells) ∙ e;

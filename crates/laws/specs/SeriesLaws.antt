@@ -9,7 +9,7 @@ use lib.Seq.{length-take-le}
 use borrow.Author.Tests.{le-ltb, ne-eqb}
 use Rattle.definitions.specs.Sums.{over}
 use Rattle.definitions.specs.Bytes.{big}
-use Rattle.definitions.specs.File.{stateCount, highestMoment, toleranceField, timeField, distributions, rewardField, rateField, withTime}
+use Rattle.definitions.specs.File.{stateCount, toleranceField, timeField, distributions, rewardField, rateField, withTime}
 use Rattle.definitions.specs.Chain.{Model, modelOf, atTime, jumpRate, rowSum, uniformRate, blockOf}
 use Rattle.definitions.specs.Rules.{accepted, refused, framing, quantities, jumps, room, blockSize, rows, seriesRows, judgement, seriesJudgement}
 use Rattle.definitions.specs.Moment.{cell, modelLevel, runTo, runOf, cellsAfter}
@@ -18,6 +18,7 @@ use Rattle.definitions.specs.Series.{modelAt, levelAt, meansOfAll, seriesOutcom
 use Rattle.laws.specs.RuleLaws.{NoneHold, all-pass, none-together, also-refused, also-accepted}
 use Rattle.laws.specs.ListLaws.{getD-over}
 use Rattle.laws.specs.ByteLaws.{big-stored, length-stored, byte-before, number-before, number-after}
+use Rattle.laws.specs.FrameLaws.{SameFrame, states-same, highest-same, distributions-same, framing-same}
 use Rattle.laws.specs.BlockLaws.{block-end, block-is}
 use Rattle.laws.specs.ChainLaws.{rate-at, rate-pos}
 use Rattle.laws.specs.Acceptance.{AcceptedSeries, SeriesRows, series-rows, time-within, accepted-series}
@@ -26,30 +27,27 @@ use Rattle.laws.specs.Demand3.{demand3}
 
 -- the file s with the time T
 module _ (s : List ℕ) (T : ℕ) (header : 13 ≤ length s) where
-  -- the bytes before the time are as they were, and the time is T
-  byte-with : (k : ℕ) → k < 9 → getD (withTime s T) k 0 ≡ getD s k 0
+  -- has its length and its first bytes
+  pub frame-with : SameFrame s (withTime s T)
   unfolding withTime
-  byte-with k h = byte-before 4 T s 9 k h
+  frame-with = record { size = length-stored 4 T s 9; first = λ k h. byte-before 4 T s 9 k (omega arith) }
 
+  states-with : stateCount (withTime s T) ≡ stateCount s
+  states-with = states-same s (withTime s T) frame-with
+
+  distributions-with : distributions (withTime s T) ≡ distributions s
+  distributions-with = distributions-same s (withTime s T) frame-with
+
+  -- the time is T
   time-with : T < 2 ^ 32 → timeField (withTime s T) ≡ T
   unfolding withTime
   time-with h = big-stored 4 T s 9 header h
 
-  states-with : stateCount (withTime s T) ≡ stateCount s
-  states-with = byte-with 3 (omega arith)
-
-  highest-with : highestMoment (withTime s T) ≡ highestMoment s
-  highest-with = byte-with 4 (omega arith)
-
-  distributions-with : distributions (withTime s T) ≡ distributions s
-  unfolding distributions
-  distributions-with = rw (byte-with 2 (omega arith)) refl
-
+  -- and every number before it and after it is as it was
   tolerance-with : toleranceField (withTime s T) ≡ toleranceField s
   unfolding withTime
   tolerance-with = number-before 4 T s 9 4 5 (omega arith)
 
-  -- and every number after it is as it was
   number-with : (width at : ℕ) → 13 ≤ at → big width (withTime s T) at ≡ big width s at
   unfolding withTime
   number-with width at h = number-after 4 T s 9 width at h
@@ -66,7 +64,7 @@ module _ (s : List ℕ) (T : ℕ) (header : 13 ≤ length s) where
       λ i.
       record {
         states = states-with i;
-        highest = highest-with i;
+        highest = highest-same s (withTime s T) frame-with i;
         tolerance = tolerance-with i;
         time = time-with h i;
         distributions = distributions-with i;
@@ -74,12 +72,6 @@ module _ (s : List ℕ) (T : ℕ) (header : 13 ≤ length s) where
         reward = λ k. reward-with k i;
         transition = λ j k. rate-with j k i;
       }
-
-  -- rows 1 to 6 read none of it
-  framing-with : (low high : ℕ) → framing low high (withTime s T) ≡ framing low high s
-  unfolding framing withTime
-  framing-with low high =
-      rw (length-stored 4 T s 9, states-with, highest-with, distributions-with, number-before 4 T s 9 2 0 (omega arith), byte-with 2 (omega arith)) refl
 
 -- rows 7 to 11 and 16 pass without a list, with any time but 0, where they pass with the file's time and a list
 quantities-at : (m : Model) (times : List ℕ) (T : ℕ) → NoneHold (quantities m times) → 1 ≤ T → NoneHold (quantities (atTime m T) [])
@@ -116,9 +108,9 @@ module _ (s times : List ℕ) (levels cells : ℕ) (none : SeriesRows s times le
       all-pass (rows run (blockSize s)) tt
       (none-together (framing 1 2 run ++ quantities (modelOf run) [] ++ jumps (uniformRate (modelOf run)) (timeField run)) (room (blockSize run) (blockSize s))
       (none-together (framing 1 2 run ++ quantities (modelOf run) []) (jumps (uniformRate (modelOf run)) (timeField run))
-      (none-together (framing 1 2 run) (quantities (modelOf run) []) (rw (framing-with s T header 1 2) (none .frame)) (subst (λ (m : Model). NoneHold (quantities m [])) (sym model-run) (quantities-at (modelOf s) times T (none .amounts) (within .0))))
+      (none-together (framing 1 2 run) (quantities (modelOf run) []) (rw (framing-same s run (frame-with s T header) 1 2) (none .frame)) (subst (λ (m : Model). NoneHold (quantities m [])) (sym model-run) (quantities-at (modelOf s) times T (none .amounts) (within .0))))
       (le-ltb 256000000 (uniformRate (modelOf run) * timeField run) few, tt))
-      (le-ltb (blockSize s) (blockSize run) (rw (states-with s T header, highest-with s T header, distributions-with s T header) (le-refl (blockSize s))), tt))
+      (le-ltb (blockSize s) (blockSize run) (rw (states-with s T header, highest-same s run (frame-with s T header), distributions-with s T header) (le-refl (blockSize s))), tt))
 
 module _ (s times levels cells : List ℕ) (passed : seriesJudgement s times (length levels) (length cells) ≡ accepted tt) (k : ℕ) (h : k < length times) where
   f : AcceptedSeries s times (length levels) (length cells)
