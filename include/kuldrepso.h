@@ -1,6 +1,6 @@
 /* Moments of the accumulated reward of a repairable system, and their truncation level: document 01's
  * calculation, its last division rounded to the nearest tick (document 02, S-1), at one time or at several (S-3), how
- * many row means that takes (S-8), what its divisions leave over (S-4), files with a starting distribution (S-5), and
+ * many row means that takes (S-8), how its figures are ordered (S-9), what its divisions leave over (S-4), files with a starting distribution (S-5), and
  * practice files (S-6), for C.
  * `./build kuldrepso` makes the library, libkuldrepso.a (x86-64), and prints its path; it needs nothing but memcpy and
  * memset. The contracts of its calls are proved: crates/kuldrepso/src/lib.rt. */
@@ -56,6 +56,10 @@ extern "C" {
  * rounded down: E times the file's time, over 1,000,000. E is the largest sum of the rates out of a state, or 1 where all
  * are 0.
  *
+ * The figures are in order (S-9): of one state, and of the start, the figure for r + 1 is at most that for r. And the file with
+ * one reward rate in the place of another, from the old one up to the largest of the file, is answered the same, *row_means
+ * too, and leaves no cell lower. Both hold to the last tick.
+ *
  * The table, in its order: rows 1 to 8 of document 01's "What stops a file", where 3 holds for any version but 1 and 2, and 6
  * reads the length of the file's version; 16, the weights of a version 2 file do not sum to 1,000,000; rows 9 to 12; 13,
  * cell_count is below B.
@@ -81,7 +85,9 @@ uint64_t kuldrepso_calculate(const uint8_t *file, size_t file_length, uint64_t *
  *   KULDREPSO_REFUSED + k   where row k is the first that holds. Every level and every cell is as it was, and so is
  *                           *row_means.
  *
- * Each level is at most 2 * m + 51, where m is the expected jump count at its time, rounded down.
+ * Each level is at most 2 * m + 51, where m is the expected jump count at its time, rounded down. Each block is in the order
+ * of kuldrepso_calculate's, and with one reward rate raised as there the answer, the levels and *row_means are the same, and
+ * no cell is left lower.
  *
  * The table, in its order: the rows of kuldrepso_calculate's table up to 11, where 8 holds also for a list whose first time
  * is 0; 14, the list has no time or more than KULDREPSO_MOST_TIMES; 15, a time is not above the one before it; 12, judged

@@ -149,7 +149,9 @@ fn fill_own(file: &[u8], cells: &mut [u64]) -> Run
 // number of row means taken, N * M * R, with moment r of state i, counted from 1, in cell (i - 1) * R + (r - 1),
 // and for a file of version 2 the start figure for r in cell M * R + (r - 1). The cells past them are as they
 // were. A moment is within the tolerance and the rounding of its exact average, a start figure within one tick
-// more of the averages weighted so. The level is at most 2 * m + 51, m being the expected jump count, down.
+// more of the averages weighted so. The level is at most 2 * m + 51, m being the expected jump count, down. In the
+// cells of a state, and in those of the start, no figure is above the one before it; and the same call for the
+// file with one reward rate raised, but not past the largest, answers the same and leaves no cell lower.
 pub fn calculate(file: &[u8], cells: &mut [u64]) -> Outcome
     ensures outcome { λ o. ⌜ answerOf o ≡ outcome (now (file .entry)) (length (now (cells .entry))) ⌝ }
     ensures cells { λ o. ⌜ now (cells .exit) ≡ cellsAfter (answerOf o) (now (file .entry)) (now (cells .entry)) ⌝ }
@@ -180,7 +182,8 @@ fn fill_listed(file: &[u8], times: &[u32], levels: &mut [u64], cells: &mut [u64]
 // touched; or the number of row means taken, N * M * R with the largest level N, with the level of time k in
 // level cell k and its figures in block k, in the order of `calculate`. Each is what `calculate` gives for the
 // file with that time in the place of its own, and each level is at most 2 * m + 51. The levels past the last
-// time and the cells past the last block are as they were.
+// time and the cells past the last block are as they were. Each block has the order of `calculate`'s, and with
+// one reward rate raised, but not past the largest, no cell is left lower.
 pub fn series(file: &[u8], times: &[u32], levels: &mut [u64], cells: &mut [u64]) -> Series
     ensures answer { λ o. ⌜ seriesAnswer o ≡ seriesOutcome (now (file .entry)) (now (times .entry)) (length (now (levels .entry))) (length (now (cells .entry))) ⌝ }
     ensures levels { λ o. ⌜ now (levels .exit) ≡ levelsAfter (seriesAnswer o) (now (file .entry)) (now (times .entry)) (now (levels .entry)) ⌝ }
