@@ -6,11 +6,14 @@ times is seen to do so. What a calculator does with its input is its own affair:
 it early or never read it.
 """
 
+import argparse
 import contextlib
 import os
+import random
 import signal
 import subprocess
 import sys
+import tempfile
 import threading
 
 try:
@@ -122,6 +125,54 @@ def run(command, file, time_limit=None):
 
 
 # --- Scripts -----------------------------------------------------------------------------------
+
+class Parser(argparse.ArgumentParser):
+    """Says what is wrong with the arguments in one line, and ends with status 2."""
+
+    def error(self, message):
+        self.exit(2, f"{self.prog}: {message}\n")
+
+
+def positive(text):
+    """A whole number of at least 1, for an argument."""
+    if not text.isdecimal() or int(text) < 1:
+        raise argparse.ArgumentTypeError(f"{text} is not a whole number of at least 1")
+    return int(text)
+
+
+def add_count_and_seed(parser, count, of_what):
+    """The arguments of a script that generates something: --count, and --seed or --fresh."""
+    parser.add_argument("--count", type=positive, default=count, help=f"{of_what}; {count} unless given")
+    group = parser.add_mutually_exclusive_group()
+    group.add_argument("--seed", type=int, help="1 unless given")
+    group.add_argument("--fresh", action="store_true", help="take a random seed")
+
+
+def add_command(parser, unless_given):
+    """The command of a calculator, which takes all arguments that follow."""
+    parser.add_argument("command", nargs=argparse.REMAINDER, metavar="COMMAND [ARGUMENT...]",
+                        help=f"the calculator; unless given, {unless_given}")
+
+
+def parsed(parser):
+    """The arguments, with the seed chosen where they have one; a command is no option."""
+    result = parser.parse_args()
+    if getattr(result, "command", []) and result.command[0].startswith("-"):
+        parser.error(f"{result.command[0]} is not a command")
+    if result.fresh:
+        result.seed = random.SystemRandom().randrange(10**9)
+    elif result.seed is None:
+        result.seed = 1
+    return result
+
+
+def save(name, file):
+    """Keeps a model under the system's temporary directory; where it is."""
+    path = os.path.join(tempfile.gettempdir(), name)
+    with open(path, "wb") as target:
+        target.write(file)
+    return path
+
 
 def leave(main, *arguments):
     """Runs a script's main and exits with its status: 2 where the system refuses something, in a line of its words,

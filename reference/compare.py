@@ -9,12 +9,9 @@ words. It stops at the first model that differs. Exit status: 0 when all are equ
 differs, 2 when the run itself is not possible.
 """
 
-import argparse
 import os
-import random
 import subprocess
 import sys
-import tempfile
 import time
 
 sys.dont_write_bytecode = True
@@ -32,21 +29,10 @@ PROGRESS_EVERY = 10   # seconds between progress lines
 
 def options():
     """The command line, with the seed chosen."""
-    parser = models.Parser(description="Compare a calculator with the reference on generated models.")
-    parser.add_argument("--count", type=models.positive, default=300)
-    group = parser.add_mutually_exclusive_group()
-    group.add_argument("--seed", type=int, help="1 unless given")
-    group.add_argument("--fresh", action="store_true", help="take a random seed")
-    parser.add_argument("command", nargs=argparse.REMAINDER, metavar="COMMAND [ARGUMENT...]",
-                        help="the calculator; unless given, what build makes")
-    result = parser.parse_args()
-    if result.command and result.command[0].startswith("-"):
-        parser.error(f"{result.command[0]} is not a command")
-    if result.fresh:
-        result.seed = random.SystemRandom().randrange(10**9)
-    elif result.seed is None:
-        result.seed = 1
-    return result
+    parser = runner.Parser(description="Compare a calculator with the reference on generated models.")
+    runner.add_count_and_seed(parser, 300, "models")
+    runner.add_command(parser, "what build makes")
+    return runner.parsed(parser)
 
 
 def built():
@@ -60,14 +46,6 @@ def built():
     return [path]
 
 
-def save(name, file, seed):
-    """Keeps a model under the system's temporary directory; where it is."""
-    path = os.path.join(tempfile.gettempdir(), f"difference-seed{seed}-{name}.model")
-    with open(path, "wb") as target:
-        target.write(file)
-    return path
-
-
 def compare(command, count, seed):
     """0 when all models are equal, 1 at the first that differs."""
     last_word = time.monotonic()
@@ -77,8 +55,9 @@ def compare(command, count, seed):
             print(f"{done} of {count} models equal so far", file=sys.stderr, flush=True)
         trouble = runner.check(command, file, calculator.sheet(file))
         if trouble:
+            path = runner.save(f"difference-seed{seed}-{name}.model", file)
             print(f"{name}: {trouble}")
-            print(f"model {done + 1} of {count} differs, seed {seed}; it is saved as {save(name, file, seed)}")
+            print(f"model {done + 1} of {count} differs, seed {seed}; it is saved as {path}")
             return 1
     print(f"compared {count} models, seed {seed}: all equal")
     return 0

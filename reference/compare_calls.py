@@ -11,7 +11,6 @@ when the run itself is not possible.
 """
 
 import os
-import random
 import sys
 
 sys.dont_write_bytecode = True
@@ -22,26 +21,19 @@ import calculator  # noqa: E402
 import cases  # noqa: E402
 import inputs  # noqa: E402
 import library  # noqa: E402
-import models  # noqa: E402
 import runner  # noqa: E402
+
 
 def options():
     """The command line, with the seed chosen."""
-    parser = models.Parser(description="Compare the library's calls with the reference on generated inputs.")
-    parser.add_argument("--count", type=models.positive, default=300, help="inputs of each call")
-    group = parser.add_mutually_exclusive_group()
-    group.add_argument("--seed", type=int, help="1 unless given")
-    group.add_argument("--fresh", action="store_true", help="take a random seed")
+    parser = runner.Parser(description="Compare the library's calls with the reference on generated inputs.")
+    runner.add_count_and_seed(parser, 300, "inputs of each call")
     parser.add_argument("--library", metavar="PATH", help="unless given, what build makes")
     parser.add_argument("calls", nargs="*", metavar="CALL", help=f"of {', '.join(library.CALLS)}; unless given, all")
-    result = parser.parse_args()
+    result = runner.parsed(parser)
     for name in result.calls:
         if name not in library.CALLS:
             parser.error(f"{name} is not a call")
-    if result.fresh:
-        result.seed = random.SystemRandom().randrange(10**9)
-    elif result.seed is None:
-        result.seed = 1
     return result
 
 
