@@ -1,7 +1,7 @@
 /* Moments of the accumulated reward of a repairable system, and their truncation level: document 01's
  * calculation, its last division rounded to the nearest tick (document 02, S-1), at one time or at several (S-3), how
- * many row means that takes (S-8), how its figures are ordered (S-9), what its divisions leave over (S-4), files with a starting distribution (S-5), and
- * practice files (S-6), for C.
+ * many row means that takes (S-8), how its figures are ordered (S-9), what its divisions leave over (S-4), files with a
+ * starting distribution (S-5), and practice files (S-6), for C.
  * `./build kuldrepso` makes the library, libkuldrepso.a (x86-64), and prints its path; it needs nothing but memcpy and
  * memset. The contracts of its calls are proved: crates/kuldrepso/src/lib.rt. */
 #ifndef KULDREPSO_H
@@ -56,9 +56,9 @@ extern "C" {
  * rounded down: E times the file's time, over 1,000,000. E is the largest sum of the rates out of a state, or 1 where all
  * are 0.
  *
- * The figures are in order (S-9): of one state, and of the start, the figure for r + 1 is at most that for r. And the file with
- * one reward rate in the place of another, from the old one up to the largest of the file, is answered the same, *row_means
- * too, and leaves no cell lower. Both hold to the last tick.
+ * The figures are in order (S-9), to the last tick: of one state, and of the start, the figure for r + 1 is at most that for
+ * r. And the file with the reward rate of one state raised, up to the largest of the file and not past it, is answered the
+ * same, *row_means too, and leaves no cell lower.
  *
  * The table, in its order: rows 1 to 8 of document 01's "What stops a file", where 3 holds for any version but 1 and 2, and 6
  * reads the length of the file's version; 16, the weights of a version 2 file do not sum to 1,000,000; rows 9 to 12; 13,
