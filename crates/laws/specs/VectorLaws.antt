@@ -1,8 +1,10 @@
--- The recurrence's equations as the paper has them, its range, that it reads a chain at its states alone, and the row means that it takes.
+-- The recurrence's equations as the paper has them, its range, its order (no lower vectors from no lower ones, and none that rises with r), that it reads
+-- a chain at its states alone, and the row means that it takes.
 use Prim.Native.Nat.{ℕ, zero, suc, _+_, _*_, _/_, _≤_, _<_}
 use native.Mathlib.Omega.{arith}
 use native.Mathlib.Nat.{mul-le-mul, mul-le-mul-left, mul-le-mul-right, le-refl, le-trans, le-antisymm}
-use mathlib.Core.Path.{_≡_, refl}
+use native.Mathlib.Decide.{decLt}
+use mathlib.Core.Path.{_≡_, refl, ap}
 use Rattle.definitions.specs.Sums.{sum}
 use Rattle.definitions.specs.Chain.{Chain}
 use Rattle.definitions.specs.Vectors.{ONE, rowTotal, rowMean, rewardShare, mix, nextEntry, firstVectors, nextVectors, U, rowMeans}
@@ -132,22 +134,29 @@ U-same a b e n r i l = le-antisymm (U-mono a b (no-lower a b e) n r i l) (U-mono
 
 -- one more r: where neither V nor W is larger, and W is not above the mix before, the mix is not either. With y that mix, n × v' + (r + 1) × w' is at
 -- most n × v + r × w + y, which is below (n + r) × (y + 1) + (y + 1).
-pub mix-falls : (n r v w v' w' : ℕ) → 0 < n + r → v' ≤ v → w' ≤ w → w' ≤ mix n r v w → mix n (suc r) v' w' ≤ mix n r v w
+pub mix-falls : (n r v w v' w' : ℕ) → v' ≤ v → w' ≤ w → w' ≤ mix n r v w → mix n (suc r) v' w' ≤ mix n r v w
 unfolding mix
-mix-falls n r v w v' w' pos hv hw hy =
+mix-falls n r v w v' w' hv hw hy =
     let y : ℕ = (n * v + r * w) / (n + r) in
-    let before : n * v + r * w < (y + 1) * (n + r) = quotient-high (n * v + r * w) (n + r) pos in
-    let now : n * v' + suc r * w' < (y + 1) * (n + suc r) = omega (arith, before, mul-le-mul-left n hv, mul-le-mul-left r hw, hy) in
-    omega (arith, quotient-below (n * v' + suc r * w') (y + 1) (n + suc r) now)
+    elim (decLt 0 (n + r)) [
+      | yes pos ↦
+          let before : n * v + r * w < (y + 1) * (n + r) = quotient-high (n * v + r * w) (n + r) pos in
+          let now : n * v' + suc r * w' < (y + 1) * (n + suc r) = omega (arith, before, mul-le-mul-left n hv, mul-le-mul-left r hw, hy) in
+          omega (arith, quotient-below (n * v' + suc r * w') (y + 1) (n + suc r) now)
+      | no none ↦
+          let n0 : n ≡ 0 = omega (arith, none) in
+          let r0 : r ≡ 0 = omega (arith, none) in
+          quotient-at-most (n * v' + suc r * w') y (n + suc r) (omega (arith, hy, ap (λ (k : ℕ). k * v') n0, ap (λ (k : ℕ). k * w') r0, ap (λ (k : ℕ). y * k) n0, ap (λ (k : ℕ). y * k) r0))
+    ]
 
 -- so is the next entry for r + 1 at most that for r, w', where neither vector before is larger: W is at most what it is a share of
-pub nextEntry-falls : (ch : Chain) (n r : ℕ) (v w v' w' : ℕ → ℕ) (i : ℕ) → ch .reward i ≤ ch .largestReward → i < ch .states → 0 < n + r → ((j : ℕ) → j < ch .states → v' j ≤ v j) → w' i ≤ w i → w' i ≡ nextEntry ch n r v w i → nextEntry ch n (suc r) v' w' i ≤ w' i
+pub nextEntry-falls : (ch : Chain) (n r : ℕ) (v w v' w' : ℕ → ℕ) (i : ℕ) → ch .reward i ≤ ch .largestReward → i < ch .states → ((j : ℕ) → j < ch .states → v' j ≤ v j) → w' i ≤ w i → w' i ≡ nextEntry ch n r v w i → nextEntry ch n (suc r) v' w' i ≤ w' i
 unfolding nextEntry
-nextEntry-falls ch n r v w v' w' i f l pos hv hw here =
+nextEntry-falls ch n r v w v' w' i f l hv hw here =
     let same : Raised ch ch = no-lower ch ch (itself ch) in
     let share : rewardShare ch (w' i) i ≤ w' i = rewardShare-bound ch (w' i) (w' i) i f (le-refl _) in
     omega
-    (arith, here, mix-falls n r _ _ _ _ pos (rowMean-mono ch ch v' v i same l hv) (rewardShare-mono ch ch (w' i) (w i) i same l hw) (omega (arith, share, here)))
+    (arith, here, mix-falls n r _ _ _ _ (rowMean-mono ch ch v' v i same l hv) (rewardShare-mono ch ch (w' i) (w i) i same l hw) (omega (arith, share, here)))
 
 -- U(n,r+1) ≤ U(n,r) at every state
 U-falls-first : (ch : Chain) → Stochastic ch → (r i : ℕ) → i < ch .states → U ch 0 (suc r) i ≤ U ch 0 r i
@@ -157,7 +166,7 @@ U-falls-next : (ch : Chain) → Stochastic ch → (n : ℕ) → ((r j : ℕ) →
 U-falls-next ch s n h zero i l = rw (U-zero ch (suc n)) (U-bound ch s (suc n) 1 i l)
 U-falls-next ch s n h (suc r) i l =
     rw (U-next ch n (suc r) i)
-    (nextEntry-falls ch (suc n) (suc r) (U ch n (suc r)) (U ch (suc n) r) (U ch n (suc (suc r))) (U ch (suc n) (suc r)) i (s .reward i l) l (omega arith) (h (suc r)) (U-falls-next ch s n h r i l) (U-next ch n r i))
+    (nextEntry-falls ch (suc n) (suc r) (U ch n (suc r)) (U ch (suc n) r) (U ch n (suc (suc r))) (U ch (suc n) (suc r)) i (s .reward i l) l (h (suc r)) (U-falls-next ch s n h r i l) (U-next ch n r i))
 
 pub U-falls : (ch : Chain) → Stochastic ch → (n r i : ℕ) → i < ch .states → U ch n (suc r) i ≤ U ch n r i
 U-falls ch s zero = U-falls-first ch s
