@@ -11,13 +11,13 @@ use Rattle.definitions.specs.Sums.{sum, largest, anyAbove, firsts, over,
 use Rattle.definitions.specs.Bytes.{big, bytesOf}
 use Rattle.definitions.specs.File.{distributions, rewardField, withReward}
 use Rattle.definitions.specs.Chain.{modelOf, atReward, jumpRate, rowSum, uniformRate, c, maxReward, jumpMillionths}
-use Rattle.definitions.specs.Rules.{accepted, framing, quantities, fallsUpTo, listing, jumps, room, rows, seriesRows, firstHeld}
+use Rattle.definitions.specs.Rules.{Answer, accepted, saying, framing, quantities, fallsUpTo, listing, jumps, room, rows, seriesRows, firstHeld}
 use Rattle.definitions.specs.Vectors.{ONE, rowMean, rewardShare, mix, nextEntry, firstVectors, nextVectors, U, rowMeans}
 use Rattle.definitions.specs.Weights.{mode, rightward, leftward, weight, weightSum}
 use Rattle.definitions.specs.Level.{tailBound, allowance, passes?, firstFrom, level}
-use Rattle.definitions.specs.Moment.{term, weighted, nearest, lastQuotient, weightedMean, moment, cellOf, figureOf, cell, modelLevel, outcome, cellsAfter}
+use Rattle.definitions.specs.Moment.{term, weighted, nearest, lastQuotient, weightedMean, moment, startMean, startFigure, cellOf, figureOf, cell, modelLevel, outcome, cellsAfter, countAfter}
 use Rattle.definitions.specs.Series.{levelAt, seriesOutcome, levelsAfter, blocksAfter}
-use Rattle.definitions.specs.Order.{NoRise, NoBlockRises, Raises, NoLower, NoLowerBlocks}
+use Rattle.definitions.specs.Order.{NoRise, NoneRises, NoBlockRises, NoLowerFigures, Raises, NoLower, NoneLowered, NoLowerBlocks, NoBlockLowered}
 use Rattle.definitions.specs.HandChecked.{fileB, modelB}
 use Rattle.definitions.specs.StartChecked.{startB}
 
@@ -31,7 +31,11 @@ falling-B i r l low high =
       | no other ↦ let second : i ≡ 1 = omega (arith, other) in rw (second, one) (omega arith)
     ]
 
--- a row that rises is found at either state, in the start's row, and in the second block of a list of times
+-- the run of B, whatever its reward rates
+abbrev pub runB : Run
+runB = record { level = 3; means = 12 }
+
+-- a row that rises is found at either state, in the start's row, in an answer's cells, and in the second block of a list of times
 pub rising-first : NoRise modelB (718750000000 ∷ 718750000001 ∷ 281250000000 ∷ 175000000000 ∷ []) → ⊥
 unfolding cellOf distributions
 rising-first none = omega (arith, none 0 1 (omega arith) (omega arith) (omega arith))
@@ -44,6 +48,10 @@ pub rising-start : NoRise (modelOf startB) (718750000000 ∷ 612500000000 ∷ 28
 unfolding cellOf distributions
 rising-start none = omega (arith, none 2 1 (omega arith) (omega arith) (omega arith))
 
+pub rising-answer : NoneRises (accepted runB) fileB (718750000000 ∷ 718750000001 ∷ 281250000000 ∷ 175000000000 ∷ []) → ⊥
+unfolding cellOf distributions
+rising-answer none = omega (arith, none 0 1 (omega arith) (omega arith) (omega arith))
+
 pub rising-block :
     NoBlockRises (accepted 16) fileB (1 ∷ 2 ∷ []) (718750000000 ∷ 612500000000 ∷ 281250000000 ∷ 175000000000 ∷ 628571428571 ∷ 628571428572 ∷ 371428571428 ∷ 219047619047 ∷ [])
     → ⊥
@@ -55,10 +63,7 @@ rising-block none = omega (arith, none 1 (omega arith) 0 1 (omega arith) (omega 
 abbrev pub evenB : List ℕ
 evenB = set fileB 20 1
 
-abbrev pub evenRun : Run
-evenRun = record { level = 3; means = 12 }
-
-pub even-cells : (outcome evenB 4 ≡ accepted evenRun) × (cellsAfter (accepted evenRun) evenB (replicate 4 0) ≡ replicate 4 ONE)
+pub even-cells : (outcome evenB 4 ≡ accepted runB) × (cellsAfter (accepted runB) evenB (replicate 4 0) ≡ replicate 4 ONE)
 unfolding sum largest anyAbove firsts over big distributions jumpRate rowSum uniformRate c maxReward jumpMillionths framing quantities jumps room rows firstHeld rowMean rewardShare mix nextEntry firstVectors nextVectors U rowMeans mode rightward leftward weight weightSum tailBound allowance passes? firstFrom level term weighted nearest lastQuotient weightedMean moment figureOf cell modelLevel outcome cellsAfter
 even-cells = (refl, refl)
 
@@ -106,7 +111,7 @@ pub raises-none : Raises fileB 2 1 → ⊥
 raises-none h = omega (arith, h .state)
 
 -- raised to 1, it lowers no cell, and raises all four; what is lent past them is the same
-pub raised-B : NoLower (withReward fileB 1 1) evenRun (replicate 5 7) (718750000000 ∷ 612500000000 ∷ 281250000000 ∷ 175000000000 ∷ 7 ∷ [])
+pub raised-B : NoLower (withReward fileB 1 1) runB (replicate 5 7) (718750000000 ∷ 612500000000 ∷ 281250000000 ∷ 175000000000 ∷ 7 ∷ [])
 unfolding sum largest anyAbove firsts over big bytesOf distributions withReward jumpRate rowSum uniformRate c maxReward jumpMillionths framing quantities jumps room rows firstHeld rowMean rewardShare mix nextEntry firstVectors nextVectors U rowMeans mode rightward leftward weight weightSum tailBound allowance passes? firstFrom level term weighted nearest lastQuotient weightedMean moment figureOf cell modelLevel outcome cellsAfter
 raised-B = record { same-run = refl; no-lower = each }
   where
@@ -118,14 +123,30 @@ raised-B = record { same-run = refl; no-lower = each }
     each (suc (suc (suc (suc zero)))) = omega arith
     each (suc (suc (suc (suc (suc k))))) = omega arith
 
+-- no other run is the same, and no other levels of a list of times
+pub other-run : (after : List ℕ) → NoLower (withReward fileB 1 1) (record { level = 4; means = 16 }) (replicate 4 0) after → ⊥
+unfolding sum largest anyAbove firsts over big bytesOf distributions withReward jumpRate rowSum uniformRate c maxReward jumpMillionths framing quantities jumps room rows firstHeld rowMeans mode rightward leftward weight weightSum tailBound allowance passes? firstFrom level modelLevel outcome
+other-run after h = omega (arith, ap (λ (a : Answer Run). countAfter (saying (λ x. x .level) a) 0) (h .same-run))
+
+pub other-levels : (after : List ℕ) → NoLowerBlocks (withReward fileB 1 1) (1 ∷ 2 ∷ []) 16 (replicate 2 0) (3 ∷ 5 ∷ []) (replicate 8 0) after → ⊥
+unfolding sum largest firsts over big bytesOf distributions withReward jumpRate rowSum uniformRate jumpMillionths mode rightward leftward weight weightSum tailBound allowance passes? firstFrom level modelLevel levelAt levelsAfter
+other-levels after h = omega (arith, ap (λ (l : List ℕ). getD l 1 0) (h .same-levels))
+
+-- what is said of an answer is said of the file with the raised rate
+pub raised-answer : (before after : List ℕ) → NoneLowered (accepted runB) fileB before after → NoLower (withReward fileB 1 1) runB before after
+raised-answer before after none = none 1 1 (raises-to-largest .1)
+
+pub raised-list : (times levels levels-after before after : List ℕ) → NoBlockLowered (accepted 16) fileB times levels levels-after before after → NoLowerBlocks (withReward fileB 1 1) times 16 levels levels-after before after
+raised-list times levels levels-after before after none = none 1 1 (raises-to-largest .1)
+
 -- raised past the largest, to 2, it lowers the moments of the first state, as F is 2 then: "raising a reward rate lowers no moment" is false without the condition
 pub past-B :
-    (outcome (withReward fileB 1 2) 4 ≡ accepted evenRun)
-    × (cellsAfter (accepted evenRun) (withReward fileB 1 2) (replicate 4 0) ≡ 640625000000 ∷ 434375000000 ∷ 859375000000 ∷ 762500000000 ∷ [])
+    (outcome (withReward fileB 1 2) 4 ≡ accepted runB)
+    × (cellsAfter (accepted runB) (withReward fileB 1 2) (replicate 4 0) ≡ 640625000000 ∷ 434375000000 ∷ 859375000000 ∷ 762500000000 ∷ [])
 unfolding sum largest anyAbove firsts over big bytesOf distributions withReward jumpRate rowSum uniformRate c maxReward jumpMillionths framing quantities jumps room rows firstHeld rowMean rewardShare mix nextEntry firstVectors nextVectors U rowMeans mode rightward leftward weight weightSum tailBound allowance passes? firstFrom level term weighted nearest lastQuotient weightedMean moment figureOf cell modelLevel outcome cellsAfter
 past-B = (refl, refl)
 
-pub past-lowers : NoLower (withReward fileB 1 2) evenRun (replicate 4 0) (718750000000 ∷ 612500000000 ∷ 281250000000 ∷ 175000000000 ∷ []) → ⊥
+pub past-lowers : NoLower (withReward fileB 1 2) runB (replicate 4 0) (718750000000 ∷ 612500000000 ∷ 281250000000 ∷ 175000000000 ∷ []) → ⊥
 past-lowers h = omega (arith, h .no-lower 0, ap (λ (l : List ℕ). getD l 0 0) (past-B .1))
 
 -- the same of a list of times, in its first block
@@ -134,3 +155,15 @@ pub past-blocks :
     → ⊥
 unfolding sum largest anyAbove firsts over blocks big bytesOf distributions withReward jumpRate rowSum uniformRate c maxReward jumpMillionths framing quantities fallsUpTo listing jumps room seriesRows firstHeld rowMean rewardShare mix nextEntry firstVectors nextVectors U rowMeans mode rightward leftward weight weightSum tailBound allowance passes? firstFrom level term weighted nearest lastQuotient weightedMean moment figureOf cell modelLevel levelAt seriesOutcome levelsAfter blocksAfter
 past-blocks h = omega (arith, h .no-lower 0)
+
+-- and of models: the first moment of state 1, and the start figure where all weight is on it
+pub past-model : NoLowerFigures modelB 1 2 → ⊥
+unfolding sum largest big distributions jumpRate rowSum uniformRate c maxReward jumpMillionths rowMean rewardShare mix nextEntry firstVectors nextVectors U mode rightward leftward weight weightSum term weighted nearest lastQuotient weightedMean moment
+past-model h = omega (arith, h .moments 3 1 0 (omega arith))
+
+abbrev pub firstB : List ℕ
+firstB = set (set (set (set (set (set startB 14 0x0F) 15 0x42) 16 0x40) 18 0x00) 19 0x00) 20 0x00
+
+pub past-start : NoLowerFigures (modelOf firstB) 1 2 → ⊥
+unfolding sum largest big distributions jumpRate rowSum uniformRate c maxReward jumpMillionths rowMean rewardShare mix nextEntry firstVectors nextVectors U mode rightward leftward weight weightSum term weighted nearest lastQuotient weightedMean moment startMean startFigure
+past-start h = omega (arith, h .starts 3 1)

@@ -63,6 +63,10 @@ module _ {A : Type 0} where
         getD-over d (count * size) (λ p. f (p / size) (p % size)) l (k * size + c) (place-below k c count size hk hc)
         ∙ ap₂ f (row-of-place k c size hc) (place-in-row k c size hc)
 
+    -- the same, in block k taken out
+    pub getD-block : (d : A) (count : ℕ) (f : ℕ → ℕ → A) (l : List A) (k c : ℕ) → k < count → c < size → getD (take size (drop (k * size) (blocks size count f l))) c d ≡ f k c
+    getD-block d count f l k c hk hc = getD-part d (k * size) size (blocks size count f l) c hc ∙ getD-blocks d count f l k c hk hc
+
     -- what stands past the blocks is as it was
     getD-blocks-past : (d : A) (count : ℕ) (f : ℕ → ℕ → A) (l : List A) (i : ℕ) → count * size ≤ i → getD (blocks size count f l) i d ≡ getD l i d
     unfolding blocks
@@ -124,9 +128,7 @@ module _ {A : Type 0} where
         ext-getD d _ (over size (f k) (take size (drop (k * size) l))) (whole (blocks size count f l) (omega (arith, room, block-end k count size h, length-blocks count f l room)) ∙ sym (length-over size (f k) (take size (drop (k * size) l)) (omega (arith, whole l (omega (arith, room, block-end k count size h)))) ∙ whole l (omega (arith, room, block-end k count size h))))
         (λ c b.
         let inside : c < size = omega (arith, b, whole (blocks size count f l) (omega (arith, room, block-end k count size h, length-blocks count f l room))) in
-        getD-take size (drop (k * size) (blocks size count f l)) c d inside
-        ∙ getD-drop (k * size) (blocks size count f l) c d
-        ∙ getD-blocks d count f l k c h inside
+        getD-block d count f l k c h inside
         ∙ sym (getD-over d size (f k) (take size (drop (k * size) l)) c inside))
       where
         whole : (x : List A) → k * size + size ≤ length x → length (take size (drop (k * size) x)) ≡ size

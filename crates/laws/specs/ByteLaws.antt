@@ -6,7 +6,7 @@ use native.Mathlib.Numerals.{add-one}
 use mathlib.Core.Path.{_≡_, refl, sym, _∙_, ap, ap₂}
 use mathlib.Core.List.{List, [], _∷_, _++_, append-assoc}
 use lib.ListN.{length, getD, take, drop, set, length-set, length-append}
-use lib.Seq.{sets, sets-eq, length-sets, getD-at, getD-drop, getD-set-same, getD-set-other, length-take-le}
+use lib.Seq.{sets, sets-eq, getD-at, getD-drop, getD-set-same, getD-set-other, length-take-le}
 use Rattle.definitions.specs.Bytes.{big, bytesOf}
 use Rattle.laws.specs.Rounding.{quotient-remainder, quotient-below}
 
@@ -92,14 +92,8 @@ big-stored width n s at room fits =
 
 -- every number that stands before the bytes of n, or after them, is as it was
 module _ (width n : ℕ) (s : List ℕ) (at : ℕ) where
-  pub length-stored : length (sets s at (bytesOf width n)) ≡ length s
-  length-stored = length-sets s at (bytesOf width n)
-
-  pub byte-before : (k : ℕ) → k < at → getD (sets s at (bytesOf width n)) k 0 ≡ getD s k 0
-  byte-before k h = sets-before s at (bytesOf width n) k h
-
   pub number-before : (w k : ℕ) → k + w ≤ at → big w (sets s at (bytesOf width n)) k ≡ big w s k
-  number-before w k h = big-same w k _ s (λ i b. byte-before (k + i) (omega arith))
+  number-before w k h = big-same w k _ s (λ i b. sets-before s at (bytesOf width n) (k + i) (omega arith))
 
   pub number-after : (w k : ℕ) → at + width ≤ k → big w (sets s at (bytesOf width n)) k ≡ big w s k
   number-after w k h = big-same w k _ s (λ i b. sets-after s at (bytesOf width n) (k + i) (omega (arith, length-bytes width n)))

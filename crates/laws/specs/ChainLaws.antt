@@ -99,9 +99,9 @@ pub record Raised (a b : Chain) : Type 0 where
   pub entry : (i j : ℕ) → i < a .states → j < a .states → a .entry i j ≤ b .entry i j
   pub reward : (i : ℕ) → i < a .states → a .reward i ≤ b .reward i
 
--- one that agrees with it is one
-pub no-lower : (a b : Chain) → SameChain a b → Raised a b
-no-lower a b e =
+-- chains that agree are such chains
+pub same-raised : (a b : Chain) → SameChain a b → Raised a b
+same-raised a b e =
     record {
       states = e .states;
       rate = e .rate;

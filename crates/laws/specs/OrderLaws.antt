@@ -5,12 +5,12 @@ use native.Mathlib.Omega.{arith}
 use native.Mathlib.Nat.{le-refl, le-antisymm}
 use native.Mathlib.Numerals.{add-one}
 use native.Mathlib.Decide.{decLt, ℕ-discrete}
-use mathlib.Core.Path.{_≡_, refl, sym, _∙_, ap, ap₂, subst}
+use mathlib.Core.Path.{_≡_, refl, sym, _∙_, ap, ap₂}
 use mathlib.Core.List.{List}
-use lib.ListN.{length}
+use lib.ListN.{length, getD}
 use borrow.Author.Tests.{eq-eqb, ne-eqb}
 use Rattle.definitions.specs.declared.Run.{Run}
-use Rattle.definitions.specs.Sums.{sum, largest, over}
+use Rattle.definitions.specs.Sums.{sum, largest}
 use Rattle.definitions.specs.Chain.{Model, modelOf, jumpRate, rowSum, uniformRate, c, maxReward, jumpMillionths, chainOf, atTime, atReward, blockOf}
 use Rattle.definitions.specs.Rules.{accepted, blockSize}
 use Rattle.definitions.specs.Level.{level}
@@ -18,12 +18,13 @@ use Rattle.definitions.specs.Vectors.{U}
 use Rattle.definitions.specs.Moment.{moment, startMean, startFigure, cellOf, figureOf, cell, modelLevel, cellsAfter}
 use Rattle.definitions.specs.Series.{modelAt, levelAt, blocksAfter, block}
 use Rattle.definitions.specs.Order.{NoRise, NoneRises, NoBlockRises, NoLowerFigures}
+use Rattle.laws.specs.Rounding.{place-below}
 use Rattle.laws.specs.SumLaws.{sum-same, le-largest, largest-le, largest-same}
-use Rattle.laws.specs.BlockLaws.{block-is}
+use Rattle.laws.specs.BlockLaws.{getD-block}
 use Rattle.laws.specs.ChainLaws.{Raised, reward-le-largest}
 use Rattle.laws.specs.VectorLaws.{U-mono, U-falls}
 use Rattle.laws.specs.Acceptance.{stochastic}
-use Rattle.laws.specs.MomentLaws.{figure-of-state, figure-of-start, getD-figure, state-of-cell, weighted-mean-mono}
+use Rattle.laws.specs.MomentLaws.{cell-holds, figure-of-state, figure-of-start, getD-figure, state-of-cell, weighted-mean-mono}
 use Rattle.laws.specs.StartLaws.{mean-mono}
 
 -- from each state, whatever the level
@@ -46,21 +47,24 @@ figure-falls m N r i =
       | no h ↦ rw (figure-of-start m N (suc r) i (omega (arith, h)), figure-of-start m N r i (omega (arith, h))) (start-falls m N r)
     ]
 
--- so in the cells of a block, whatever stood in them
-no-rise : (m : Model) (N : ℕ) (cells : List ℕ) → NoRise m (over (blockOf m) (cell m N) cells)
-no-rise m N cells i r l low high =
-    omega (arith, getD-figure m N i (r + 1) cells l (omega arith) (omega arith), getD-figure m N i r cells l low (omega arith), ap (λ (k : ℕ). figureOf m N k i) (add-one r), figure-falls m N r i)
+-- so in cells that hold the figures of a block
+no-rise : (m : Model) (N : ℕ) (cells : List ℕ) → ((i r : ℕ) → i < m .states + m .distributions → 1 ≤ r → r ≤ m .highest → getD cells (cellOf m i r) 0 ≡ figureOf m N r i) → NoRise m cells
+no-rise m N cells holds i r l low high =
+    omega (arith, holds i (r + 1) l (omega arith) (omega arith), holds i r l low (omega arith), ap (λ (k : ℕ). figureOf m N k i) (add-one r), figure-falls m N r i)
 
 -- in those that a run leaves, and in every block that a list of times leaves
 pub none-rises : (s cells : List ℕ) (run : Run) → NoneRises (accepted run) s (cellsAfter (accepted run) s cells)
 unfolding cellsAfter
-none-rises s cells run = no-rise (modelOf s) (run .level) cells
+none-rises s cells run = no-rise (modelOf s) (run .level) (cellsAfter (accepted run) s cells) (λ i r. getD-figure (modelOf s) (run .level) i r cells)
 
-pub no-block-rises : (s times cells : List ℕ) (n : ℕ) → length times * blockSize s ≤ length cells → NoBlockRises (accepted n) s times (blocksAfter (accepted n) s times cells)
+pub no-block-rises : (s times cells : List ℕ) (n : ℕ) → NoBlockRises (accepted n) s times (blocksAfter (accepted n) s times cells)
 unfolding blocksAfter cellOf
-no-block-rises s times cells n room k h =
-    subst (NoRise (modelOf s)) (sym (block-is (blockSize s) 0 (length times) (λ j. cell (modelAt s times j) (levelAt s times j)) cells k h room))
-    (no-rise (modelAt s times k) (levelAt s times k) (block s cells k))
+no-block-rises s times cells n k h = no-rise (modelAt s times k) (levelAt s times k) (block s (blocksAfter (accepted n) s times cells) k) holds
+  where
+    holds : (i r : ℕ) → i < modelOf s .states + modelOf s .distributions → 1 ≤ r → r ≤ modelOf s .highest → getD (block s (blocksAfter (accepted n) s times cells) k) (cellOf (modelOf s) i r) 0 ≡ figureOf (modelAt s times k) (levelAt s times k) r i
+    holds i r l low high =
+        getD-block (blockSize s) 0 (length times) (λ j. cell (modelAt s times j) (levelAt s times j)) cells k (cellOf (modelOf s) i r) h (place-below i (r - 1) (modelOf s .states + modelOf s .distributions) (modelOf s .highest) l (omega arith))
+        ∙ cell-holds (modelAt s times k) (levelAt s times k) i r low high
 
 -- model b has no lower reward rates than model a, and none above the largest of a; all else is the same, at the states, and the starting weights where there is a
 -- starting distribution
@@ -144,7 +148,7 @@ module _ (a b : Model) (e : RaisedModel a b) where
   unfolding cell
   cell-no-lower N k l = omega (arith, ap (λ (R : ℕ). figureOf b N (k % R + 1) (k / R)) (e .highest), figure-no-lower N (k % a .highest + 1) (k / a .highest) (state-of-cell k (a .states + a .distributions) (a .highest) l))
 
--- at any other time too
+-- a raised model is raised at any other time
 pub raised-at : (a b : Model) → RaisedModel a b → (T : ℕ) → RaisedModel (atTime a T) (atTime b T)
 unfolding maxReward
 raised-at a b e T =
@@ -160,7 +164,7 @@ raised-at a b e T =
       transition = e .transition;
     }
 
--- the model with one reward rate from its own to the largest is one
+-- a model with one reward rate from its own to the largest is raised
 pub one-raised : (m : Model) (i x : ℕ) → m .reward i ≤ x → x ≤ maxReward m → RaisedModel m (atReward m i x)
 one-raised m i x low high =
     record {

@@ -11,7 +11,7 @@ use lib.ListN.{length, getD}
 use lib.Dec.{ltb, eqb}
 use Rattle.definitions.specs.declared.Run.{Run}
 use Rattle.definitions.specs.Sums.{sum, largest, anyAbove}
-use Rattle.definitions.specs.Bytes.{big}
+use Rattle.definitions.specs.Bytes.{big, bytesOf}
 use Rattle.definitions.specs.File.{stateCount, distributions, weightField, rewardsAt, rewardField, withReward, place, rowAt, rateField}
 use Rattle.definitions.specs.Chain.{Model, modelOf, rowSum, maxReward}
 use Rattle.definitions.specs.Rules.{Rows, accepted, misweighted, framing, quantities, listing, lastTime, jumps, room, blockSize, rows, seriesRows, firstHeld}
@@ -21,9 +21,9 @@ use Rattle.definitions.specs.Series.{modelAt, levelAt, meansOfAll, seriesOutcom
 use Rattle.definitions.specs.Order.{Raises, NoneLowered, NoBlockLowered}
 use Rattle.laws.specs.SumLaws.{sum-same, any-largest, largest-same}
 use Rattle.laws.specs.ListLaws.{over-same, over-mono}
-use Rattle.laws.specs.ByteLaws.{big-stored, length-stored, byte-before, number-before, number-after}
+use Rattle.laws.specs.ByteLaws.{big-stored, number-before, number-after}
 use Rattle.laws.specs.BlockLaws.{blocks-mono}
-use Rattle.laws.specs.FrameLaws.{SameFrame, states-same, highest-same, distributions-same, framing-same}
+use Rattle.laws.specs.FrameLaws.{SameFrame, states-same, highest-same, distributions-same, framing-same, frame-stored}
 use Rattle.laws.specs.ChainLaws.{reward-le-largest}
 use Rattle.laws.specs.RowLaws.{no-start, with-start}
 use Rattle.laws.specs.Acceptance.{Framed, accepted-file, accepted-series}
@@ -131,18 +131,15 @@ module _ (s t : List ℕ) (frame : framing 1 2 t ≡ framing 1 2 s) (e : RaisedM
       (blocks-mono (blockSize s) (length times) (λ k. cell (modelAt s times k) (levelAt s times k)) (λ k. cell (modelAt t times k) (levelAt t times k)) cells
       (λ k c h b. rw (← level-at-kept times k) (cell-no-lower (modelAt s times k) (modelAt t times k) (at-time times k) (levelAt s times k) c b)))
 
--- the framed file s with a reward rate x, from its own to the largest, for state i: it fits its four bytes
-module _ (s : List ℕ) (framed : Framed s) (i x : ℕ) (raises : Raises s i x) (fits : x < 2 ^ 32) where
+-- the file s with the reward rate x for state i
+module _ (s : List ℕ) (i x : ℕ) where
   abbrev at : ℕ
   at = rewardsAt s + 4 * i
-
-  inside : at + 4 ≤ length s
-  inside = omega (arith, framed .size, raises .state, mul-le-mul-right (stateCount s) (framed .states-min))
 
   -- the header is as it was
   pub frame-kept : SameFrame s (withReward s i x)
   unfolding withReward
-  frame-kept = record { size = length-stored 4 x s at; first = λ k h. byte-before 4 x s at k (omega arith) }
+  frame-kept = frame-stored s at (bytesOf 4 x) (omega arith)
 
   number-kept : (k : ℕ) → k + 4 ≤ 13 → big 4 (withReward s i x) k ≡ big 4 s k
   unfolding withReward
@@ -154,34 +151,36 @@ module _ (s : List ℕ) (framed : Framed s) (i x : ℕ) (raises : Raises s i x) 
   rewards-kept : rewardsAt (withReward s i x) ≡ rewardsAt s
   rewards-kept = rw (states-kept, distributions-same s (withReward s i x) frame-kept) refl
 
-  -- the weights stand before the reward
+  -- the weights stand before the rewards
   weight-kept : (j : ℕ) → j < distributions s * stateCount s → weightField s j ≡ weightField (withReward s i x) j
   unfolding withReward
   weight-kept j h = sym (number-before 4 x s at 4 (13 + 4 * j) (omega arith))
 
-  -- the reward of state i is x; those of the other states stand before or after it
-  reward-is : rewardField (withReward s i x) i ≡ x
-  unfolding withReward
-  reward-is = ap (λ (k : ℕ). big 4 (withReward s i x) (k + 4 * i)) rewards-kept ∙ big-stored 4 x s at inside fits
-
+  -- the reward of another state stands before x, or after it
   reward-kept : (j : ℕ) → (j ≡ i → ⊥) → rewardField (withReward s i x) j ≡ rewardField s j
   unfolding withReward
   reward-kept j other =
       ap (λ (k : ℕ). big 4 (withReward s i x) (k + 4 * j)) rewards-kept
       ∙ elim (decLt j i) [ yes before ↦ number-before 4 x s at 4 (rewardsAt s + 4 * j) (omega arith) | no after ↦ number-after 4 x s at 4 (rewardsAt s + 4 * j) (omega (arith, after, other)) ]
 
-  -- the rates stand after all rewards
-  rate-kept-at : (j k : ℕ) → rateField s j k ≡ rateField (withReward s i x) j k
+  -- that of state i is x, where the bytes are there and x fits them
+  reward-is : at + 4 ≤ length s → x < 2 ^ 32 → rewardField (withReward s i x) i ≡ x
   unfolding withReward
-  rate-kept-at j k =
+  reward-is inside fits = ap (λ (k : ℕ). big 4 (withReward s i x) (k + 4 * i)) rewards-kept ∙ big-stored 4 x s at inside fits
+
+  -- the rates stand after the rewards of all states
+  rate-kept-at : i < stateCount s → (j k : ℕ) → rateField s j k ≡ rateField (withReward s i x) j k
+  unfolding withReward
+  rate-kept-at l j k =
       sym
       (ap (λ (M : ℕ). big 4 (withReward s i x) (rewardsAt (withReward s i x) + 4 * M + 4 * (M - 1) * j + 4 * place j k)) states-kept
       ∙ ap (λ (p : ℕ). big 4 (withReward s i x) (p + 4 * stateCount s + 4 * (stateCount s - 1) * j + 4 * place j k)) rewards-kept
-      ∙ number-after 4 x s at 4 (rowAt s j + 4 * place j k) (omega (arith, raises .state)))
+      ∙ number-after 4 x s at 4 (rowAt s j + 4 * place j k) (omega arith))
 
-  -- so its model is that of s raised
-  pub file-raised : RaisedModel (modelOf s) (modelOf (withReward s i x))
-  file-raised =
+  -- so, with a rate from its own to the largest, the model of a framed file is raised
+  pub file-raised : Framed s → Raises s i x → x < 2 ^ 32 → RaisedModel (modelOf s) (modelOf (withReward s i x))
+  file-raised framed raises fits =
+      let inside : at + 4 ≤ length s = omega (arith, framed .size, raises .state, mul-le-mul-right (stateCount s) (framed .states-min)) in
       record {
         states = sym states-kept;
         highest = sym (highest-same s (withReward s i x) frame-kept);
@@ -189,9 +188,9 @@ module _ (s : List ℕ) (framed : Framed s) (i x : ℕ) (raises : Raises s i x) 
         time = sym (number-kept 9 (omega arith));
         distributions = sym (distributions-same s (withReward s i x) frame-kept);
         start = λ some j l. weight-kept j (omega (arith, l, mul-le-mul-right (stateCount s) some));
-        no-lower = λ j l. elim (ℕ-discrete j i) [ yes same ↦ rw (same, reward-is) (raises .from) | no other ↦ omega (arith, reward-kept j other) ];
-        not-past = λ j l. elim (ℕ-discrete j i) [ yes same ↦ rw (same, reward-is) (raises .to) | no other ↦ omega (arith, reward-kept j other, reward-le-largest (modelOf s) j l) ];
-        transition = λ j k lj lk other. rate-kept-at j k;
+        no-lower = λ j l. elim (ℕ-discrete j i) [ yes same ↦ rw (same, reward-is inside fits) (raises .from) | no other ↦ omega (arith, reward-kept j other) ];
+        not-past = λ j l. elim (ℕ-discrete j i) [ yes same ↦ rw (same, reward-is inside fits) (raises .to) | no other ↦ omega (arith, reward-kept j other, reward-le-largest (modelOf s) j l) ];
+        transition = λ j k lj lk other. rate-kept-at (raises .state) j k;
       }
 
 -- of an accepted file, and of one accepted with a list of times: raising one reward rate lowers no cell
@@ -199,8 +198,8 @@ pub none-lowered : (s cells : List ℕ) (run : Run) → outcome s (length cells)
 none-lowered s cells run e i x raises =
     let f = accepted-file s (length cells) (run-judged s (length cells) run e) .model in
     let fits : x < 2 ^ 32 = omega (arith, raises .to, f .limits .rewards-max) in
-    let frame = framing-same s (withReward s i x) (frame-kept s (f .framed) i x raises fits) 1 2 in
-    let raised = file-raised s (f .framed) i x raises fits in
+    let frame = framing-same s (withReward s i x) (frame-kept s i x) 1 2 in
+    let raised = file-raised s i x (f .framed) raises fits in
     record { same-run = outcome-kept s (withReward s i x) frame raised (length cells) ∙ e; no-lower = cells-no-lower s (withReward s i x) frame raised run cells }
 
 pub no-block-lowered : (s times levels cells : List ℕ) (n : ℕ) → seriesOutcome s times (length levels) (length cells) ≡ accepted n → NoBlockLowered (accepted n) s times levels (levelsAfter (accepted n) s times levels) cells (blocksAfter (accepted n) s times cells)
@@ -209,8 +208,8 @@ no-block-lowered s times levels cells n e i x raises =
     let f = accepted-series s times (length levels) (length cells) (series-judged s times (length levels) (length cells) n e) in
     let t : List ℕ = withReward s i x in
     let fits : x < 2 ^ 32 = omega (arith, raises .to, f .limits 0 (f .count-min) .rewards-max) in
-    let frame = framing-same s (withReward s i x) (frame-kept s (f .framed) i x raises fits) 1 2 in
-    let raised = file-raised s (f .framed) i x raises fits in
+    let frame = framing-same s (withReward s i x) (frame-kept s i x) 1 2 in
+    let raised = file-raised s i x (f .framed) raises fits in
     record {
       same-count = series-kept s t frame raised times (length levels) (length cells) ∙ e;
       same-levels = levels-kept s t frame raised n times levels;

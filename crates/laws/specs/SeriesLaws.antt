@@ -8,7 +8,7 @@ use lib.ListN.{length, getD, drop, length-drop}
 use lib.Seq.{length-take-le}
 use borrow.Author.Tests.{le-ltb, ne-eqb}
 use Rattle.definitions.specs.Sums.{over}
-use Rattle.definitions.specs.Bytes.{big}
+use Rattle.definitions.specs.Bytes.{big, bytesOf}
 use Rattle.definitions.specs.File.{stateCount, toleranceField, timeField, distributions, rewardField, rateField, withTime}
 use Rattle.definitions.specs.Chain.{Model, modelOf, atTime, jumpRate, rowSum, uniformRate, blockOf}
 use Rattle.definitions.specs.Rules.{accepted, refused, framing, quantities, jumps, room, blockSize, rows, seriesRows, judgement, seriesJudgement}
@@ -17,8 +17,8 @@ use Rattle.definitions.specs.Promise.{Promise}
 use Rattle.definitions.specs.Series.{modelAt, levelAt, meansOfAll, seriesOutcome, levelsAfter, blocksAfter, block, IsRun, AreRuns, SeriesPromised, LevelsBounded}
 use Rattle.laws.specs.RuleLaws.{NoneHold, all-pass, none-together, also-refused, also-accepted}
 use Rattle.laws.specs.ListLaws.{getD-over}
-use Rattle.laws.specs.ByteLaws.{big-stored, length-stored, byte-before, number-before, number-after}
-use Rattle.laws.specs.FrameLaws.{SameFrame, states-same, highest-same, distributions-same, framing-same}
+use Rattle.laws.specs.ByteLaws.{big-stored, number-before, number-after}
+use Rattle.laws.specs.FrameLaws.{SameFrame, states-same, highest-same, distributions-same, framing-same, frame-stored}
 use Rattle.laws.specs.BlockLaws.{block-end, block-is}
 use Rattle.laws.specs.ChainLaws.{rate-at, rate-pos}
 use Rattle.laws.specs.Acceptance.{AcceptedSeries, SeriesRows, series-rows, time-within, accepted-series}
@@ -26,11 +26,11 @@ use Rattle.laws.specs.MomentLaws.{outcome-accepted, level-bounded}
 use Rattle.laws.specs.Demand3.{demand3}
 
 -- the file s with the time T
-module _ (s : List ℕ) (T : ℕ) (header : 13 ≤ length s) where
+module _ (s : List ℕ) (T : ℕ) where
   -- has its length and its first bytes
-  pub frame-with : SameFrame s (withTime s T)
+  frame-with : SameFrame s (withTime s T)
   unfolding withTime
-  frame-with = record { size = length-stored 4 T s 9; first = λ k h. byte-before 4 T s 9 k (omega arith) }
+  frame-with = frame-stored s 9 (bytesOf 4 T) (omega arith)
 
   states-with : stateCount (withTime s T) ≡ stateCount s
   states-with = states-same s (withTime s T) frame-with
@@ -39,9 +39,9 @@ module _ (s : List ℕ) (T : ℕ) (header : 13 ≤ length s) where
   distributions-with = distributions-same s (withTime s T) frame-with
 
   -- the time is T
-  time-with : T < 2 ^ 32 → timeField (withTime s T) ≡ T
+  time-with : 13 ≤ length s → T < 2 ^ 32 → timeField (withTime s T) ≡ T
   unfolding withTime
-  time-with h = big-stored 4 T s 9 header h
+  time-with header h = big-stored 4 T s 9 header h
 
   -- and every number before it and after it is as it was
   tolerance-with : toleranceField (withTime s T) ≡ toleranceField s
@@ -59,14 +59,14 @@ module _ (s : List ℕ) (T : ℕ) (header : 13 ≤ length s) where
   rate-with i j = rw (states-with, distributions-with) (number-with 4 _ (omega arith))
 
   -- its model is that of s with the time T
-  pub model-with : T < 2 ^ 32 → modelOf (withTime s T) ≡ atTime (modelOf s) T
-  model-with h =
+  pub model-with : 13 ≤ length s → T < 2 ^ 32 → modelOf (withTime s T) ≡ atTime (modelOf s) T
+  model-with header h =
       λ i.
       record {
         states = states-with i;
         highest = highest-same s (withTime s T) frame-with i;
         tolerance = tolerance-with i;
-        time = time-with h i;
+        time = time-with header h i;
         distributions = distributions-with i;
         start = λ k. number-with 4 (13 + 4 * k) (omega arith) i;
         reward = λ k. reward-with k i;
@@ -108,9 +108,9 @@ module _ (s times : List ℕ) (levels cells : ℕ) (none : SeriesRows s times le
       all-pass (rows run (blockSize s)) tt
       (none-together (framing 1 2 run ++ quantities (modelOf run) [] ++ jumps (uniformRate (modelOf run)) (timeField run)) (room (blockSize run) (blockSize s))
       (none-together (framing 1 2 run ++ quantities (modelOf run) []) (jumps (uniformRate (modelOf run)) (timeField run))
-      (none-together (framing 1 2 run) (quantities (modelOf run) []) (rw (framing-same s run (frame-with s T header) 1 2) (none .frame)) (subst (λ (m : Model). NoneHold (quantities m [])) (sym model-run) (quantities-at (modelOf s) times T (none .amounts) (within .0))))
+      (none-together (framing 1 2 run) (quantities (modelOf run) []) (rw (framing-same s run (frame-with s T) 1 2) (none .frame)) (subst (λ (m : Model). NoneHold (quantities m [])) (sym model-run) (quantities-at (modelOf s) times T (none .amounts) (within .0))))
       (le-ltb 256000000 (uniformRate (modelOf run) * timeField run) few, tt))
-      (le-ltb (blockSize s) (blockSize run) (rw (states-with s T header, highest-same s run (frame-with s T header), distributions-with s T header) (le-refl (blockSize s))), tt))
+      (le-ltb (blockSize s) (blockSize run) (rw (states-with s T, highest-same s run (frame-with s T), distributions-with s T) (le-refl (blockSize s))), tt))
 
 module _ (s times levels cells : List ℕ) (passed : seriesJudgement s times (length levels) (length cells) ≡ accepted tt) (k : ℕ) (h : k < length times) where
   f : AcceptedSeries s times (length levels) (length cells)

@@ -10,7 +10,7 @@ use Rattle.definitions.specs.Chain.{Chain}
 use Rattle.definitions.specs.Vectors.{ONE, rowTotal, rowMean, rewardShare, mix, nextEntry, firstVectors, nextVectors, U, rowMeans}
 use Rattle.laws.specs.Rounding.{quotient-high, quotient-at-most, quotient-mono, quotient-below}
 use Rattle.laws.specs.SumLaws.{sum-mono, sum-times, sum-constant}
-use Rattle.laws.specs.ChainLaws.{SameChain, itself, the-other-way, Raised, no-lower}
+use Rattle.laws.specs.ChainLaws.{SameChain, itself, the-other-way, Raised, same-raised}
 
 -- U(n,0) is ONE everywhere
 pub U-zero : (ch : Chain) (n i : ℕ) → U ch n 0 i ≡ ONE
@@ -121,16 +121,16 @@ U-mono a b e (suc n) = U-mono-next a b e n (U-mono a b e n)
 -- the row total, the next entry and U read a chain at its states alone: on chains that agree there each is at most the other
 pub rowTotal-same : (a b : Chain) (v w : ℕ → ℕ) (i : ℕ) → SameChain a b → i < a .states → ((j : ℕ) → j < a .states → v j ≡ w j) → rowTotal a v i ≡ rowTotal b w i
 rowTotal-same a b v w i e l h =
-    le-antisymm (rowTotal-mono a b v w i (no-lower a b e) l (λ j k. omega (arith, h j k)))
-    (rowTotal-mono b a w v i (no-lower b a (the-other-way a b e)) (omega (arith, e .states)) (λ j k. omega (arith, h j (omega (arith, e .states)))))
+    le-antisymm (rowTotal-mono a b v w i (same-raised a b e) l (λ j k. omega (arith, h j k)))
+    (rowTotal-mono b a w v i (same-raised b a (the-other-way a b e)) (omega (arith, e .states)) (λ j k. omega (arith, h j (omega (arith, e .states)))))
 
 pub nextEntry-same : (a b : Chain) (n r : ℕ) (v w x y : ℕ → ℕ) (i : ℕ) → SameChain a b → i < a .states → ((j : ℕ) → j < a .states → v j ≡ w j) → x i ≡ y i → nextEntry a n r v x i ≡ nextEntry b n r w y i
 nextEntry-same a b n r v w x y i e l h q =
-    le-antisymm (nextEntry-mono a b n r v w x y i (no-lower a b e) l (λ j k. omega (arith, h j k)) (omega (arith, q)))
-    (nextEntry-mono b a n r w v y x i (no-lower b a (the-other-way a b e)) (omega (arith, e .states)) (λ j k. omega (arith, h j (omega (arith, e .states)))) (omega (arith, q)))
+    le-antisymm (nextEntry-mono a b n r v w x y i (same-raised a b e) l (λ j k. omega (arith, h j k)) (omega (arith, q)))
+    (nextEntry-mono b a n r w v y x i (same-raised b a (the-other-way a b e)) (omega (arith, e .states)) (λ j k. omega (arith, h j (omega (arith, e .states)))) (omega (arith, q)))
 
 pub U-same : (a b : Chain) → SameChain a b → (n r i : ℕ) → i < a .states → U a n r i ≡ U b n r i
-U-same a b e n r i l = le-antisymm (U-mono a b (no-lower a b e) n r i l) (U-mono b a (no-lower b a (the-other-way a b e)) n r i (omega (arith, e .states)))
+U-same a b e n r i l = le-antisymm (U-mono a b (same-raised a b e) n r i l) (U-mono b a (same-raised b a (the-other-way a b e)) n r i (omega (arith, e .states)))
 
 -- one more r: where neither V nor W is larger, and W is not above the mix before, the mix is not either. With y that mix, n × v' + (r + 1) × w' is at
 -- most n × v + r × w + y, which is below (n + r) × (y + 1) + (y + 1).
@@ -149,14 +149,15 @@ mix-falls n r v w v' w' hv hw hy =
           quotient-at-most (n * v' + suc r * w') y (n + suc r) (omega (arith, hy, ap (λ (k : ℕ). k * v') n0, ap (λ (k : ℕ). k * w') r0, ap (λ (k : ℕ). y * k) n0, ap (λ (k : ℕ). y * k) r0))
     ]
 
--- so is the next entry for r + 1 at most that for r, w', where neither vector before is larger: W is at most what it is a share of
-pub nextEntry-falls : (ch : Chain) (n r : ℕ) (v w v' w' : ℕ → ℕ) (i : ℕ) → ch .reward i ≤ ch .largestReward → i < ch .states → ((j : ℕ) → j < ch .states → v' j ≤ v j) → w' i ≤ w i → w' i ≡ nextEntry ch n r v w i → nextEntry ch n (suc r) v' w' i ≤ w' i
-unfolding nextEntry
-nextEntry-falls ch n r v w v' w' i f l hv hw here =
-    let same : Raised ch ch = no-lower ch ch (itself ch) in
-    let share : rewardShare ch (w' i) i ≤ w' i = rewardShare-bound ch (w' i) (w' i) i f (le-refl _) in
-    omega
-    (arith, here, mix-falls n r _ _ _ _ (rowMean-mono ch ch v' v i same l hv) (rewardShare-mono ch ch (w' i) (w i) i same l hw) (omega (arith, share, here)))
+-- the next entry for r + 1 is at most that for r, on any chain: where the vector of n − 1 is no larger than it was for r, and what the share is taken of is
+-- no larger than it was, and at most that entry. The share of a number is at most the number, where f is at most F.
+pub nextEntry-falls : (ch : Chain) (n r : ℕ) (v w v' w' : ℕ → ℕ) (i : ℕ) → ch .reward i ≤ ch .largestReward → ((j : ℕ) → j < ch .states → v' j ≤ v j) → w' i ≤ w i → w' i ≤ nextEntry ch n r v w i → nextEntry ch n (suc r) v' w' i ≤ nextEntry ch n r v w i
+unfolding nextEntry rowMean rewardShare
+nextEntry-falls ch n r v w v' w' i f hv hw here =
+    mix-falls n r _ _ _ _
+    (quotient-mono (rowTotal ch v' i) (rowTotal ch v i) (ch .rate) (sum-mono (ch .states) (λ j. ch .entry i j * v' j) (λ j. ch .entry i j * v j) (λ j k. mul-le-mul-left (ch .entry i j) (hv j k))))
+    (quotient-mono (ch .reward i * w' i) (ch .reward i * w i) (ch .largestReward) (mul-le-mul-left (ch .reward i) hw))
+    (le-trans (rewardShare-bound ch (w' i) (w' i) i f (le-refl (w' i))) here)
 
 -- U(n,r+1) ≤ U(n,r) at every state
 U-falls-first : (ch : Chain) → Stochastic ch → (r i : ℕ) → i < ch .states → U ch 0 (suc r) i ≤ U ch 0 r i
@@ -165,8 +166,9 @@ U-falls-first ch s r i l = rw U-first (rewardShare-bound ch (U ch 0 r i) (U ch 0
 U-falls-next : (ch : Chain) → Stochastic ch → (n : ℕ) → ((r j : ℕ) → j < ch .states → U ch n (suc r) j ≤ U ch n r j) → (r i : ℕ) → i < ch .states → U ch (suc n) (suc r) i ≤ U ch (suc n) r i
 U-falls-next ch s n h zero i l = rw (U-zero ch (suc n)) (U-bound ch s (suc n) 1 i l)
 U-falls-next ch s n h (suc r) i l =
-    rw (U-next ch n (suc r) i)
-    (nextEntry-falls ch (suc n) (suc r) (U ch n (suc r)) (U ch (suc n) r) (U ch n (suc (suc r))) (U ch (suc n) (suc r)) i (s .reward i l) l (h (suc r)) (U-falls-next ch s n h r i l) (U-next ch n r i))
+    let before = U-next ch n r i in
+    omega
+    (arith, before, U-next ch n (suc r) i, nextEntry-falls ch (suc n) (suc r) (U ch n (suc r)) (U ch (suc n) r) (U ch n (suc (suc r))) (U ch (suc n) (suc r)) i (s .reward i l) (h (suc r)) (U-falls-next ch s n h r i l) (omega (arith, before)))
 
 pub U-falls : (ch : Chain) → Stochastic ch → (n r i : ℕ) → i < ch .states → U ch n (suc r) i ≤ U ch n r i
 U-falls ch s zero = U-falls-first ch s

@@ -1,9 +1,8 @@
 -- A refused list touches no level and no cell; an accepted one has its levels and blocks filled. They are those of runs, demand 3 holds of them, the
 -- levels' bound, and the order of the figures.
-use Prim.Native.Nat.{_*_, _≤_}
 use mathlib.Core.Path.{_≡_, refl, sym, _∙_, ap, subst}
 use lib.ListN.{length}
-use Rattle.definitions.specs.Rules.{accepted, blockSize, seriesJudgement, verdict}
+use Rattle.definitions.specs.Rules.{accepted, seriesJudgement, verdict}
 use Rattle.definitions.specs.Series.{levelsAfter, blocksAfter}
 use Rattle.definitions.specs.Order.{NoBlockRises}
 use Rattle.laws.specs.Acceptance.{accepted-series}
@@ -32,8 +31,7 @@ returns-2 c =
     let filled = c .before .before .before .before .fill-listed .ensures in
     let n = c .before .before .before .before .fill-listed .result in
     let answer = ap accepted (filled .1 .1) ∙ sym (series-accepted s times (length levels) (length cells) passed) in
-    let room : length times * blockSize s ≤ length cells = accepted-series s times (length levels) (length cells) passed .block-room in
-    let order = subst (NoBlockRises (accepted n) s times) (sym (filled .1 .0)) (no-block-rises s times cells n room) in
+    let order = subst (NoBlockRises (accepted n) s times) (sym (filled .1 .0)) (no-block-rises s times cells n) in
     (answer, (filled .0, (filled .1 .0, (rw (filled .0, filled .1 .0) (series-promised s times levels cells n passed), (rw (filled .0, filled .1 .0) (series-runs s times levels cells n passed), (rw (filled .0) (series-bounded s times levels (length cells) n passed), (order, rw (filled .0, filled .1 .0) (no-block-lowered s times levels cells n (sym answer)))))))))
 
 pub series-spec : {M : Type 1} → statement M
