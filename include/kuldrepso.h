@@ -57,8 +57,8 @@ extern "C" {
  * are 0.
  *
  * The figures are in order (S-9), to the last tick: of one state, and of the start, the figure for r + 1 is at most that for
- * r. And the file with the reward rate of one state raised, up to the largest of the file and not past it, is answered the
- * same, *row_means too, and leaves no cell lower.
+ * r. And the file with the reward rate of one state raised, up to the largest of the file and not past it, lent the same
+ * cells, is answered the same, *row_means too, and leaves no cell lower.
  *
  * The table, in its order: rows 1 to 8 of document 01's "What stops a file", where 3 holds for any version but 1 and 2, and 6
  * reads the length of the file's version; 16, the weights of a version 2 file do not sum to 1,000,000; rows 9 to 12; 13,

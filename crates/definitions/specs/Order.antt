@@ -38,7 +38,7 @@ pub record Raises (s : List ℕ) (i x : ℕ) : Type 0 where
   pub from : rewardField s i ≤ x
   pub to : x ≤ maxReward (modelOf s)
 
--- the file t answers the run, and of the cells that were lent leaves none below what stands after
+-- a call for the file t, lent the cells before, answers the run, and leaves no cell below that of after
 pub record NoLower (t : List ℕ) (run : Run) (before after : List ℕ) : Type 0 where
   pub same-run : outcome t (length before) ≡ accepted run
   pub no-lower : (k : ℕ) → getD after k 0 ≤ getD (cellsAfter (accepted run) t before) k 0
@@ -48,7 +48,7 @@ abbrev pub NoneLowered : Answer Run → List ℕ → List ℕ → List ℕ → T
 NoneLowered (accepted run) s before after = (i x : ℕ) → Raises s i x → NoLower (withReward s i x) run before after
 NoneLowered (refused k) s before after = Unit {0}
 
--- the file t and the list of times answer the count n, give the same levels, and of the cells that were lent leave none below what stands after
+-- a call for the file t and the list of times, lent the cells before, answers the count n, gives the levels after, and leaves no cell below that of after
 pub record NoLowerBlocks (t times : List ℕ) (n : ℕ) (levels levels-after before after : List ℕ) : Type 0 where
   pub same-count : seriesOutcome t times (length levels) (length before) ≡ accepted n
   pub same-levels : levelsAfter (accepted n) t times levels ≡ levels-after
