@@ -1,10 +1,12 @@
 #!/usr/bin/env python3
 """The definitions tried by an outside program: what the reference says of small generated files of both versions, alone,
-with lists of times, with a state, n and r, of their moves to the other version, and of practice files, as theorems.
+with lists of times, with a state, n and r, of their moves to the other version, of practice files, and of files with one
+reward rate raised, as theorems.
 
     python3 tests/definitions/try.py             every statement must be proved
     python3 tests/definitions/try.py --wrong     one number of each kind in a case is altered, an answer's count of row
-                                                 means to one more, one less and N × M; each must be refused
+                                                 means to one more, one less and N × M, and of rewards the opposite is
+                                                 said; each must be refused
     --seed N    other files and numbers        --keep    leave the scratch crate, and say where it stands
 
 Each file is a theorem four times: what a call answers (the level with the count of row means of document 02, S-8, or the
@@ -19,10 +21,14 @@ given). Where they are given, a fifth says the quotients V, W and U. Each move o
 answers (the count of bytes, or the refusal's number), and all bytes after the call (also those past the moved file, which
 stay). Where it is accepted, a third says the moved file. Each practice file (S-6), from M, R and a seed number, is one
 twice likewise; where it is accepted, a third says the file that is dealt, and a fourth its level and count of row means,
-with M × R cells. The numbers are the reference's, which counts the row means one by one as it takes them. The theorems
-stand in a scratch crate outside the repository, which cites crates/definitions and is checked by `rt check DIR`. A
-refusal counts only where the prover names the altered statement and says that its two sides differ, and for each kind of
-number it must have shown the right and the altered one side by side.
+with M × R cells. Each state of a file with a reward from its own to the file's largest (S-9) is one six times, and seven
+where its own is above 0: the bytes of the file with that reward, which are built from its fields, what a call answers for
+it, that this is the answer for the file itself, all cells after the call, that the reward is one that the state may be
+raised to, and that one more than the largest and one less than its own are not. The numbers are the reference's, which
+counts the row means one by one as it takes them. The theorems stand in a scratch crate outside the repository, which cites
+crates/definitions and is checked by `rt check DIR`. A refusal counts only where the prover names the altered statement and
+says that its two sides differ, and for each kind of number it must have shown the right and the altered one side by side;
+of what rewards a state may be raised to, where it says that what is left to show is false.
 """
 
 import copy
@@ -48,6 +54,7 @@ import models  # noqa: E402
 
 HEAD = """\
 use Prim.Native.Nat.{ℕ, _-_, _*_}
+use native.Mathlib.Omega.{arith}
 use mathlib.Core.List.{List, [], _∷_}
 use mathlib.Core.Path.{_≡_, refl}
 use lib.ListN.{length, getD}
@@ -57,6 +64,7 @@ use Rattle.definitions.specs.Moment.{countAfter}
 use Rattle.definitions.specs.Maybe.{given, none}
 use Rattle.definitions.specs.Remainders.{numberAfter, meanOf, shareOf}
 use Rattle.definitions.specs.Written.{countOf, bytesAfter}
+use Rattle.definitions.specs.Order.{Raises}
 """
 USE = "use Rattle.definitions.specs.{module}.{{{names}}}\n"
 LENT = """
@@ -64,9 +72,9 @@ abbrev {name} : {type}
 {name} = {value}
 """
 THEOREM = """
-pub {name}-{label} : {left} ≡ {right}
+pub {name}-{label} : {says}
 unfolding {unfolded}
-{name}-{label} = refl
+{name}-{label} = {proof}
 """
 ANSWER = {
     "level": "accepted (record {{ level = {}; means = {} }})",
@@ -76,7 +84,8 @@ ANSWER = {
     "none": "accepted none",
     "bytes": "accepted {}",
 }
-RIGHT = {"moved": "accepted ({})", "dealt": "accepted ({})"}    # for the other parts, what is written is all
+# For the other parts, what is written is all.
+RIGHT = {"moved": "accepted ({})", "dealt": "accepted ({})", "unchanged": "outcome {file} (length {cells})"}
 LEFT = {
     "calculate": {
         "answer": "outcome {file} (length {cells})",
@@ -114,6 +123,17 @@ LEFT = {
         "dealt": "practice {states} {highest} {seed} (length {out})",
         "level": "outcome (practiceFile {states} {highest} {seed}) ({states} * {highest})",
     },
+    "raised": {
+        "rewarded": "withReward {file} {state} {reward}",
+        "answer": "outcome (withReward {file} {state} {reward}) (length {cells})",
+        "unchanged": "outcome (withReward {file} {state} {reward}) (length {cells})",
+        "cells": "cellsAfter (outcome (withReward {file} {state} {reward}) (length {cells})) (withReward {file} {state} {reward}) {cells}",
+    },
+}
+# What is said of a reward and how it is proved: the parts that are no equation.
+OF_REWARD = {
+    "admitted": ("Raises {file} {state} {}", "record { state = omega arith; from = omega arith; to = omega arith }"),
+    "not-admitted": ("Raises {file} {state} {} → ⊥", "λ h. omega arith"),
 }
 
 # --- The files ------------------------------------------------------------------------------------------------
@@ -492,8 +512,46 @@ def practice_cases(rng):
     return result
 
 
+# --- The files with one reward raised -------------------------------------------------------------------------
+
+# The files of four states among them: version and R.
+FOUR_STATES = {"four-states": (1, 4), "four-states-one-moment": (1, 1), "start-four-states": (2, 4), "start-four-states-two-moments": (2, 2)}
+
+
+def four_states(rng, version, R):
+    """The bytes of a file of four states, with hardly a jump."""
+    fields = small(rng, 4, R, most=9_000)
+    return models.build(**(fields if version == 1 else models.in_version_2(fields, models.uneven(rng, 4))))
+
+
+def with_reward(file, state, reward):
+    """The bytes that are built from a file's fields with another reward for a state, counted from 0."""
+    model = calculator.read_model(file)
+    rewards = [*model.f[:state], reward, *model.f[state + 1:]]
+    return models.build(file[2], model.M, model.R, model.epsilon, model.T, rewards, calculator.read_rates(file, model.M), model.a)
+
+
+def raised_cases(rng, accepted):
+    """Files of up to four states and a level of at most 7: each state below the file's largest reward, or the only one, in
+    turn with its own reward, one more, one between and the largest, as far as they differ. The cells are those of the
+    file's block."""
+    files = {name: file for name, file in accepted.items() if file[3] <= 4 and inputs.limits(file)["n"] <= 7}
+    files.update((name, four_states(rng, *sizes)) for name, sizes in FOUR_STATES.items())
+    result = []
+    for name, file in files.items():
+        rewards = calculator.read_model(file).f
+        largest = max(rewards)
+        for state, own in enumerate(rewards):
+            if own < largest or len(rewards) == 1:
+                to = sorted({own, min(own + 1, largest), (own + largest) // 2, largest})
+                given = dict(file=file, state=state, reward=to[len(result) % len(to)], cells=lent(rng, inputs.need(file)))
+                result.append(Case("raised", f"raised-{name}-{state}", 0, given))
+    return result
+
+
 def cases(rng):
-    """All files alone, then some of them with lists, then files with a state, n and r, then moves, then practice files."""
+    """All files alone, then some of them with lists, then files with a state, n and r, then moves, then practice files, then
+    files with one reward raised."""
     accepted, refused, refused_2 = accepted_files(rng), refused_files(rng), refused_starts(rng)
     return [
         *file_cases(rng, accepted, refused, refused_2),
@@ -501,6 +559,7 @@ def cases(rng):
         *asked_cases(rng, refused, refused_2),
         *move_cases(rng, accepted, refused, refused_2),
         *practice_cases(rng),
+        *raised_cases(rng, accepted),
     ]
 
 
@@ -513,8 +572,9 @@ LONG = {"most-jumps", "move-2-eight-states", "move-1-eight-states"}
 Fact = namedtuple("Fact", "case label part value")
 
 # The kinds of number in an answer, by its word, and in the parts that always have the same kinds: each with the places
-# where it stands. An answer is a word and numbers; of the file with another time, one of the time's bytes is altered. The
-# count of row means in an answer is altered by `other_counts`.
+# where it stands. An answer is a word and numbers; of the file with another time, one of the time's bytes is altered. That
+# a raised reward leaves the answer unchanged has no number. The count of row means in an answer is altered by
+# `other_counts`.
 KINDS = {
     "refused": {"rule": [1]},
     "level": {"level": [1]},
@@ -524,6 +584,7 @@ KINDS = {
     "bytes": {"count": [1]},
     "file": {"byte": range(9, 13)},
     "quotients": {"V": [0], "W": [1], "U": [2]},
+    "unchanged": {},
 }
 
 # What an answer becomes where its word is altered.
@@ -532,6 +593,8 @@ OTHER = {"times": ("refused", 13), "given": ("none", 1), "none": ("given", 0, 0,
 
 def right_facts(case):
     """What the reference says of a case."""
+    if case.call == "raised":
+        return raised_facts(case, **case.given)
     given = copy.deepcopy(case.given)
     answer = getattr(calculator, case.call)(**given)
     if {"refused": answer[1], "none": "none"}.get(answer[0], 0) != case.rule:
@@ -552,6 +615,18 @@ def right_facts(case):
     elif answer[0] == "given":
         values.update(given_values(**{each: given[each] for each in ("file", *inputs.NUMBERS)}))
     return [Fact(case, part, part, value) for part, value in values.items()]
+
+
+def raised_facts(case, file, state, reward, cells):
+    """What it says of a file with one reward raised."""
+    raised, after, rewards = with_reward(file, state, reward), list(cells), calculator.read_model(file).f
+    calculator.calculate(raised, after)
+    values = {"rewarded": list(raised), "answer": run_answer(raised, len(cells)), "unchanged": [], "cells": after}
+    facts = [Fact(case, part, part, value) for part, value in values.items()]
+    facts += [Fact(case, "own-to-largest", "admitted", reward), Fact(case, "past-largest", "not-admitted", max(rewards) + 1)]
+    if rewards[state]:
+        facts.append(Fact(case, "below-own", "not-admitted", rewards[state] - 1))
+    return facts
 
 
 def with_count(answer, row_means):
@@ -586,7 +661,7 @@ def kinds(fact):
     """The kinds of number in a fact, each with the places where it stands."""
     case, part, value = fact.case, fact.part, fact.value
     same = KINDS.get(value[0] if part == "answer" else part)
-    if same:
+    if same is not None:
         return same.items()
     if part == "dealt":
         rates = 13 + 4 * case.given["states"]
@@ -594,6 +669,9 @@ def kinds(fact):
                 ("dealt-tolerance", range(5, 9)), ("dealt-time", range(9, 13)), ("dealt-reward", range(13, rates)),
                 ("dealt-rate", range(rates, len(value)))]
     file = case.given.get("file")
+    if part == "rewarded":
+        first = calculator.first_reward(file, file[3]) + 4 * case.given["state"]
+        return [("reward-byte", range(first, first + 4)), ("other-byte", [*range(first), *range(first + 4, len(value))])]
     if part == "sheet":
         lines = len(bytes(value).split(b"start")[0])    # those before the start's
         return [("byte", range(lines)), ("start-byte", range(lines, len(value)))]
@@ -636,6 +714,11 @@ def other_counts(fact):
             yield fact._replace(label=f"row-means-{label}", value=(*others, other)), count, other
 
 
+def opposite(fact):
+    """The opposite of what is said of a reward."""
+    return fact._replace(part="admitted" if fact.part == "not-admitted" else "not-admitted")
+
+
 def shown(value, place):
     """The number at a place, or the answer's word, as the prover shows it."""
     return "accepted" if value[place] == "times" else value[place]
@@ -644,6 +727,9 @@ def shown(value, place):
 def wrong_facts(rng, facts):
     """Each kind of number of a case's facts, altered: (the fact, the number that is right, the altered one)."""
     for fact in facts:
+        if fact.part in OF_REWARD:
+            yield opposite(fact), fact.value, fact.value
+            continue
         for label, places in kinds(fact):
             if places:
                 place = rng.choice(places)
@@ -674,6 +760,16 @@ def written(value):
     return " ∷ ".join([*map(str, value), "[]"])
 
 
+def stated(fact):
+    """What a fact says, and its proof, in antt."""
+    names = {what: f"{fact.case.name}-lent-{what}" for what in fact.case.given}
+    if fact.part in OF_REWARD:
+        says, proof = OF_REWARD[fact.part]
+        return dict(says=says.format(fact.value, **names), proof=proof)
+    left = LEFT[fact.case.call][fact.part].format(**names)
+    return dict(says=f"{left} ≡ {RIGHT.get(fact.part, '{}').format(written(fact.value), **names)}", proof="refl")
+
+
 def theorems(facts):
     """The text of a module that states all the facts."""
     modules = unfoldable()
@@ -683,11 +779,7 @@ def theorems(facts):
         for what, value in case.given.items():
             kind = "ℕ" if isinstance(value, int) else "List ℕ"
             text.append(LENT.format(name=f"{case.name}-lent-{what}", type=kind, value=written(value)))
-    for fact in facts:
-        name = fact.case.name
-        left = LEFT[fact.case.call][fact.part].format(**{what: f"{name}-lent-{what}" for what in fact.case.given})
-        right = RIGHT.get(fact.part, "{}").format(written(fact.value))
-        text.append(THEOREM.format(name=name, label=fact.label, left=left, right=right, unfolded=unfolded))
+    text += [THEOREM.format(name=fact.case.name, label=fact.label, unfolded=unfolded, **stated(fact)) for fact in facts]
     return "".join(text)
 
 
@@ -745,9 +837,13 @@ def try_wrong(folder, wrongs):
     status, said = check(folder, [fact for fact, _, _ in wrongs])
     messages = dict(errors(said))
     numbers = {f"{fact.case.name}-{fact.label}": ((fact.case.call, fact.label), right, wrong) for fact, right, wrong in wrongs}
+    of_rewards = {f"{fact.case.name}-{fact.label}" for fact, _, _ in wrongs if fact.part in OF_REWARD}
     counts, seen = Counter(kind for kind, _, _ in numbers.values()), set()
     trouble = [f"{name}: an altered number was not refused" for name in numbers if name not in messages]
     for name, message in messages.items():
+        if name in of_rewards and "All of that holds, and the goal fails" in message:
+            seen.add(numbers[name][0])
+            continue
         if name not in numbers or "the two types differ" not in message:
             trouble.append(f"{name}: refused for another reason: {message.splitlines()[0][:300]}")
             continue
@@ -765,7 +861,7 @@ def try_wrong(folder, wrongs):
 
 
 def main():
-    parser = models.Parser(description="State what the reference says of small files, alone, with lists of times, with a state, n and r, and moved, and of practice files, and let the prover check it.")
+    parser = models.Parser(description="State what the reference says of small files, alone, with lists of times, with a state, n and r, moved, and with one reward raised, and of practice files, and let the prover check it.")
     parser.add_argument("--wrong", action="store_true", help="alter one number of each kind in a case; each must be refused")
     parser.add_argument("--seed", type=int, default=1)
     parser.add_argument("--keep", action="store_true", help="leave the scratch crate")
