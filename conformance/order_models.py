@@ -5,7 +5,7 @@ import random
 from collections import namedtuple
 
 from parts import (MAX_REWARD, MAX_ROW_SUM, MAX_TOLERANCE, MAX_X, build, fields_for, in_either_version, log_uniform,
-                   random_rates, random_time, split, valid)
+                   random_rates, random_rewards, random_time, split, valid)
 
 # name: what the file is there for. first: its bytes. state: whose reward is raised, from 1. raised: (reward, bytes)
 # with that reward, none below the one before, from the file's own to its largest.
@@ -34,10 +34,7 @@ def few(rng, rewards, absorbing=0.1, E=None, T=None, eps=None):
 
 def any_rewards(rng, M, top=None):
     """Rewards from 0 to their largest, which is in one state or in several."""
-    top = top or log_uniform(rng, 1, MAX_REWARD)
-    rewards = [rng.choice([0, top, rng.randint(0, top), rng.randint(0, top)]) for _ in range(M)]
-    rewards[rng.randrange(M)] = top
-    return rewards
+    return random_rewards(rng, M, top or log_uniform(rng, 1, MAX_REWARD))
 
 
 # --- Kinds: functions of rng that give the fields of an accepted file --------------------------------

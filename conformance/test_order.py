@@ -99,7 +99,6 @@ class WrongCalculators(unittest.TestCase):
             ask = order.by_module(mutants.module(entry, [*mistakes.HELPERS, carried]))
             with mock.patch.object(order, "check_raised" if "rises" in words else "check_rows"):
                 self.assertIn(words, fault(ask, tries), f"{entry.name}: {entry.what}")
-            self.assertTrue(fault(ask, tries), entry.name)
         self.assertEqual(len({entry.name for _, entry in WRONG}), len(WRONG))
 
     def test_raised_file(self):
