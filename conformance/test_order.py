@@ -118,6 +118,24 @@ class WrongCalculators(unittest.TestCase):
                              f"(the file's largest is 1): {words}")
             self.assertEqual(found.exception.files, {"first": B, "raised": each.raised[1][1]})
 
+    def test_another_answer(self):
+        """The words for a calculator that answers file B otherwise when it is run once more, be it higher or lower."""
+        each = order_models.Try("B", B, 2, [(0, B)])
+        right = calculator.sheet(B)
+        for sheet, words in (
+                (b"refused 9\n", "the file is refused 9, though no row of the table stops it"),
+                (right.replace(b"level 3", b"level 4"), "the level was 3 and is 4"),
+                (right.replace(b"2 2 0.17", b"2 2 0.16"),
+                 "state 2, r = 2: the figure was 0.175000000000 and is 0.165000000000"),
+                (right.replace(b"1 1 0.71", b"1 1 0.72"),
+                 "state 1, r = 1: the figure was 0.718750000000 and is 0.728750000000")):
+            sheets = iter([right, sheet])
+            with self.assertRaises(order.Fault) as found:
+                order.check(lambda file: order.read_sheet(file, next(sheets)), each)
+            self.assertEqual(str(found.exception), f"run once more, the same file has another answer: {words}")
+            self.assertEqual(found.exception.files, {"first": B})
+        self.assertEqual(order.check(lambda file: order.read_sheet(file, right), each), 4)
+
     def test_no_sheet(self):
         sheet = calculator.sheet(B)
         for output, words in (
