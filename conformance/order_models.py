@@ -1,5 +1,6 @@
-"""Generated accepted files for order.py, each with one reward to raise: models from the whole range of document 01, and
-some in which the figures are a few ticks from 0, from 1 or from each other. This folder alone is enough."""
+"""Generated accepted files for order.py, each with one reward to raise: models from the whole range of document 01 with
+S-5 of document 02, and some in which the figures are a few ticks from 0, from 1 or from each other. This folder alone
+is enough."""
 
 import random
 from collections import namedtuple
@@ -93,9 +94,15 @@ def some_jumps(rng):
     return few(rng, any_rewards(rng, rng.randint(2, 6)), E=X // T, T=T)
 
 
+def largest_rates(rng):
+    """E at the limit of row 11, in most files by one rate; T up to the largest for it."""
+    T = rng.choice([1, 25, rng.randint(2, 24)])
+    return few(rng, any_rewards(rng, rng.randint(2, 3)), E=MAX_ROW_SUM, T=T)
+
+
 def longest(rng):
-    """E * T at its limit: the level is above 300."""
-    T = rng.choice([32, 40, 256, 256_000])
+    """E * T at its limit, up to the largest time: the level is above 300."""
+    T = rng.choice([32, 40, 256, 256_000, MAX_X])
     return few(rng, any_rewards(rng, rng.randint(2, 3)), E=MAX_X // T, T=T)
 
 
@@ -193,7 +200,7 @@ KINDS = [two_or_three_states, ticks_below_1, small_rewards, ticks_above_0, up_to
          absorbing_states, half_ticks_below_1, ticks_apart_by_start, no_rates, half_ticks, some_jumps,
          one_reward_above_0, equal_rewards, one_state, rewards_one_apart, half_ticks_below_1, longest, shortest,
          ticks_above_0, tolerance_smallest, tolerance_largest, ticks_apart_by_start, repair_shop, half_ticks_below_1,
-         many_states]
+         many_states, largest_rates]
 
 
 # --- Files with a reward to raise ------------------------------------------------------------------------

@@ -150,20 +150,40 @@ class WrongCalculators(unittest.TestCase):
             self.assertEqual(str(found.exception), words)
 
 
+# The numbers that a file has in a field, or that come of its fields, and those which files of several states have to
+# reach: the least and the largest that an accepted file can have there, and some next to these.
+ENDS = [
+    ("tolerance", lambda model: [model.epsilon], {1, 100_000_000}),
+    ("time", lambda model: [model.T], {1, 256_000_000}),
+    ("starting weight", lambda model: model.a, {0, 1, 999_999, 1_000_000}),
+    ("reward", lambda model: model.f, {0, 1_000_000}),
+    ("largest reward", lambda model: [model.F], {1, 1_000_000}),
+    ("rate", lambda model: [rate for i, row in enumerate(model.c) for j, rate in enumerate(row) if i != j],
+     {0, 1, 10_000_000}),
+    ("row sum", lambda model: [model.E - row[i] for i, row in enumerate(model.c)], {0, 1, 10_000_000}),
+    ("E and T", lambda model: [(model.E, model.T)], {(1, 256_000_000), (10_000_000, 1), (10_000_000, 25)}),
+    ("E times T", lambda model: [model.X], {1, 256_000_000}),
+]
+
+
 class Models(unittest.TestCase):
 
     def test_they_cover(self):
-        """Over the default count: both versions, numbers of states and moments, the ends of every field."""
+        """Over the default count: both versions, each with 1 and with 64 states, every highest moment, and the ends of
+        every other field, each in three files or more."""
         tries = list(order_models.tries(1, order.COUNT))
         files = [each.first for each in tries]
         found = [calculator.read_model(file) for file in files]
         self.assertEqual({calculator.refusal(file, 520) for file in files}, {0})
         self.assertLessEqual({1, 2, 3, 4, 5, 6, 7, 8, 63, 64}, {model.M for model in found})
+        self.assertLessEqual({(1, 1), (1, 64), (2, 1), (2, 64)}, {(file[2], file[3]) for file in files})
         self.assertEqual({model.R for model in found}, set(range(1, 9)))
         self.assertGreater(sum(model.R >= 3 for model in found), 0.8 * len(found))
         self.assertGreater(min(sum(file[2] == version for file in files) for version in (1, 2)), 0.4 * len(files))
-        self.assertLessEqual({1, 10**8}, {model.epsilon for model in found})
-        self.assertLessEqual({1, 256_000_000}, {model.X for model in found})
+        for name, numbers, ends in ENDS:
+            for end in ends:
+                reached = sum(end in numbers(model) for model in found if model.M > 1)
+                self.assertGreaterEqual(reached, 3, f"{name}: {end}")
         for holds in (lambda model: 0 in model.f, lambda model: model.M > 1 and len(set(model.f)) == 1,
                       lambda model: {999_999, 1_000_000} <= set(model.f), lambda model: model.F == 1,
                       lambda model: any(row[i] == model.E for i, row in enumerate(model.c)) and model.M > 1,
