@@ -6,9 +6,10 @@
 
 The first runs any calculator, the second the reference, with lists of times as well. Of every file: in each row, that
 of a state or the start row, the figure for r + 1 is at most that for r; and with one state's reward raised, up to the
-file's largest, the file is accepted with the same level and no figure is lower. It stops at the first file of which
-that does not hold. order_false.py shows statements next to these two that are false. Exit status: 0 when all holds, 1
-when something does not, 2 when the run itself is not possible.
+file's largest, the file is accepted with the same level and no figure is lower. The file itself is run twice and has
+the same answer both times. It stops at the first file of which one of these does not hold. order_false.py shows
+statements next to the first two that are false. Exit status: 0 when all holds, 1 when something does not, 2 when the
+run itself is not possible.
 """
 
 import os
@@ -16,6 +17,7 @@ import re
 import sys
 import time
 from collections import namedtuple
+from contextlib import contextmanager
 
 sys.dont_write_bytecode = True
 HERE = os.path.dirname(os.path.abspath(__file__))
@@ -126,36 +128,62 @@ def check_rows(rows):
                             f"for r = {r + 1}")
 
 
-def check_raised(before, after):
-    """A Fault where a level is another, or a figure lower, after a reward was raised."""
+def figures_of_both(before, after):
+    """(whose, r, old, new) for every figure of two answers."""
+    for (whose, olds), (_, news) in zip(before.rows, after.rows):
+        for r, (old, new) in enumerate(zip(olds, news), 1):
+            yield whose, r, old, new
+
+
+def check_levels(before, after):
+    """A Fault where a level is another."""
     if after.levels != before.levels:
         raise Fault(f"the level was {before.levels[0]} and is {after.levels[0]}" if len(after.levels) == 1 else
                     f"the levels were {before.levels} and are {after.levels}")
-    for (whose, old), (_, new) in zip(before.rows, after.rows):
-        for r, (one, other) in enumerate(zip(old, new), 1):
-            if other < one:
-                raise Fault(f"{whose}, r = {r}: the figure falls from {figure(one)} to {figure(other)}")
+
+
+def check_same(before, after):
+    """A Fault where a level or a figure is another."""
+    check_levels(before, after)
+    for whose, r, old, new in figures_of_both(before, after):
+        if new != old:
+            raise Fault(f"{whose}, r = {r}: the figure was {figure(old)} and is {figure(new)}")
+
+
+def check_raised(before, after):
+    """A Fault where a level is another, or a figure lower, after a reward was raised."""
+    check_levels(before, after)
+    for whose, r, old, new in figures_of_both(before, after):
+        if new < old:
+            raise Fault(f"{whose}, r = {r}: the figure falls from {figure(old)} to {figure(new)}")
+
+
+@contextmanager
+def told(words, **files):
+    """A Fault gets these words before its own, and the files that show it."""
+    try:
+        yield
+    except Fault as fault:
+        raise Fault(f"{words}{fault}", **files) from None
 
 
 def check(ask, each):
-    """A Fault where a statement does not hold of a file, or of the same file with a reward raised step by step; how
-    many rows were looked at."""
-    try:
+    """A Fault where a statement does not hold of a file, or of the same file with a reward raised step by step, or
+    where the file has another answer when it is run once more; how many rows were looked at."""
+    with told("", first=each.first):
         before = ask(each.first)
         check_rows(before.rows)
-    except Fault as fault:
-        raise Fault(str(fault), first=each.first) from None
-    looked_at, file, reward = len(before.rows), each.first, each.raised[0][0]
-    for new_reward, raised in each.raised:
-        try:
+    with told("run once more, the same file has another answer: ", first=each.first):
+        check_same(before, ask(each.first))
+    looked_at, largest = 2 * len(before.rows), each.raised[-1][0]
+    for (reward, file), (new_reward, raised) in zip(each.raised, each.raised[1:]):
+        with told(f"with the reward of state {each.state} raised from {reward} to {new_reward} "
+                  f"(the file's largest is {largest}): ", first=file, raised=raised):
             after = ask(raised)
             check_raised(before, after)
             check_rows(after.rows)
-        except Fault as fault:
-            raise Fault(f"with the reward of state {each.state} raised from {reward} to {new_reward} "
-                        f"(the file's largest is {each.raised[-1][0]}): {fault}", first=file, raised=raised) from None
         looked_at += len(after.rows)
-        before, file, reward = after, raised, new_reward
+        before = after
     return looked_at
 
 

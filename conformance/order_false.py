@@ -97,8 +97,7 @@ def between(ticks):
 
 def changes(before, after):
     """[(row, r, by how many ticks its figure rises)]."""
-    return [(name, r, new - old) for (name, olds), (_, news) in zip(before.rows, after.rows)
-            for r, (old, new) in enumerate(zip(olds, news), 1)]
+    return [(name, r, new - old) for name, r, old, new in order.figures_of_both(before, after)]
 
 
 def lower_and_higher(before, after):

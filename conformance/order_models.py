@@ -1,11 +1,12 @@
-"""Generated accepted files for order.py, each with one reward to raise: models from the whole range of document 01, and
-some in which the figures are a few ticks from 0, from 1 or from each other. This folder alone is enough."""
+"""Generated accepted files for order.py, each with one reward to raise: models from the whole range of document 01 with
+S-5 of document 02, and some in which the figures are a few ticks from 0, from 1 or from each other. This folder alone
+is enough."""
 
 import random
 from collections import namedtuple
 
 from parts import (MAX_REWARD, MAX_ROW_SUM, MAX_TOLERANCE, MAX_X, build, fields_for, in_either_version, log_uniform,
-                   random_rates, random_time, split, valid)
+                   random_rates, random_rewards, random_time, split, valid)
 
 # name: what the file is there for. first: its bytes. state: whose reward is raised, from 1. raised: (reward, bytes)
 # with that reward, none below the one before, from the file's own to its largest.
@@ -34,10 +35,7 @@ def few(rng, rewards, absorbing=0.1, E=None, T=None, eps=None):
 
 def any_rewards(rng, M, top=None):
     """Rewards from 0 to their largest, which is in one state or in several."""
-    top = top or log_uniform(rng, 1, MAX_REWARD)
-    rewards = [rng.choice([0, top, rng.randint(0, top), rng.randint(0, top)]) for _ in range(M)]
-    rewards[rng.randrange(M)] = top
-    return rewards
+    return random_rewards(rng, M, top or log_uniform(rng, 1, MAX_REWARD))
 
 
 # --- Kinds: functions of rng that give the fields of an accepted file --------------------------------
@@ -96,9 +94,15 @@ def some_jumps(rng):
     return few(rng, any_rewards(rng, rng.randint(2, 6)), E=X // T, T=T)
 
 
+def largest_rates(rng):
+    """E at the limit of row 11, in most files by one rate; T up to the largest for it."""
+    T = rng.choice([1, 25, rng.randint(2, 24)])
+    return few(rng, any_rewards(rng, rng.randint(2, 3)), E=MAX_ROW_SUM, T=T)
+
+
 def longest(rng):
-    """E * T at its limit: the level is above 300."""
-    T = rng.choice([32, 40, 256, 256_000])
+    """E * T at its limit, up to the largest time: the level is above 300."""
+    T = rng.choice([32, 40, 256, 256_000, MAX_X])
     return few(rng, any_rewards(rng, rng.randint(2, 3)), E=MAX_X // T, T=T)
 
 
@@ -196,7 +200,7 @@ KINDS = [two_or_three_states, ticks_below_1, small_rewards, ticks_above_0, up_to
          absorbing_states, half_ticks_below_1, ticks_apart_by_start, no_rates, half_ticks, some_jumps,
          one_reward_above_0, equal_rewards, one_state, rewards_one_apart, half_ticks_below_1, longest, shortest,
          ticks_above_0, tolerance_smallest, tolerance_largest, ticks_apart_by_start, repair_shop, half_ticks_below_1,
-         many_states]
+         many_states, largest_rates]
 
 
 # --- Files with a reward to raise ------------------------------------------------------------------------

@@ -1,5 +1,6 @@
 """Parts of generated model files, for the generators of conformance/ and of reference/: the bytes of a file from its
-fields, and rates, rewards, times and starting weights drawn from the whole range of document 01."""
+fields, and rates, rewards, times and starting weights drawn from the whole range of document 01 with S-5 of
+document 02."""
 
 MAX_TOLERANCE = 100_000_000
 MAX_REWARD = 1_000_000
