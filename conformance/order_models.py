@@ -6,7 +6,7 @@ import random
 from collections import namedtuple
 
 from parts import (MAX_REWARD, MAX_ROW_SUM, MAX_TOLERANCE, MAX_X, build, fields_for, in_either_version, log_uniform,
-                   random_rates, random_rewards, random_time, split, valid)
+                   random_rates, random_rewards, random_time, repair_shop_parts, split, valid)
 
 # name: what the file is there for. first: its bytes. state: whose reward is raised, from 1. raised: (reward, bytes)
 # with that reward, none below the one before, from the file's own to its largest.
@@ -121,16 +121,10 @@ def tolerance_largest(rng):
 
 def repair_shop(rng):
     """Units with one repair crew; the reward is the number of working units."""
-    M, failure, repair = rng.randint(2, 7), rng.randint(1, 100_000), rng.randint(1, 1_000_000)
-    rates = [[0] * (M - 1) for _ in range(M)]
-    for down in range(M):
-        if down < M - 1:
-            rates[down][down] = (M - 1 - down) * failure       # to down + 1
-        if down > 0:
-            rates[down][down - 1] = repair                     # to down - 1
+    M = rng.randint(2, 7)
+    rewards, rates = repair_shop_parts(rng, M)
     E = max(map(sum, rates))
-    return valid(M, moments(rng), rng.choice([1, 10_000, MAX_TOLERANCE]), short_time(rng, E),
-                 [M - 1 - down for down in range(M)], rates)
+    return valid(M, moments(rng), rng.choice([1, 10_000, MAX_TOLERANCE]), short_time(rng, E), rewards, rates)
 
 
 def many_states(rng):

@@ -97,6 +97,19 @@ def random_time(rng, E):
     return rng.choice([1, most, log_uniform(rng, 1, most), log_uniform(rng, 1, most)])
 
 
+def repair_shop_parts(rng, M):
+    """Rewards and rates of M - 1 equal units with one repair crew, any failure and repair rate; state i, counted from
+    0, has i of them down, and the reward is the number of working units."""
+    failure, repair = rng.randint(1, 100_000), rng.randint(1, 1_000_000)
+    rates = [[0] * (M - 1) for _ in range(M)]
+    for down in range(M):
+        if down < M - 1:
+            rates[down][down] = (M - 1 - down) * failure       # to down + 1
+        if down > 0:
+            rates[down][down - 1] = repair                     # to down - 1
+    return [M - 1 - down for down in range(M)], rates
+
+
 def factors(X):
     """E and T with E * T = X: T as small as the limit of E lets it be, or X where it would pass 2,000."""
     T = next((T for T in range(1, 2_001) if X % T == 0 and X // T <= MAX_ROW_SUM), X)

@@ -21,7 +21,7 @@ import edges  # noqa: E402
 from parts import (  # noqa: E402, F401: some are for those who import this module
     ALL_WEIGHT, MAX_REWARD, MAX_ROW_SUM, MAX_TOLERANCE, MAX_WORD, MAX_X, STARTS, build, even, factors, fields_for,
     in_either_version, in_version_2, log_uniform, on_one, random_rates, random_rewards, random_starts, random_time,
-    random_tolerance, row_to, split, uneven, valid, words)
+    random_tolerance, repair_shop_parts, row_to, split, uneven, valid, words)
 from runner import Parser, positive  # noqa: E402
 
 
@@ -182,16 +182,9 @@ def stiff_pair(rng):
 def units_with_one_crew(rng):
     """Identical units with one repair crew; the reward is the number of working units."""
     M = rng.randint(2, 9)
-    failure, repair = rng.randint(1, 100_000), rng.randint(1, 1_000_000)
-    rates = [[0] * (M - 1) for _ in range(M)]
-    for down in range(M):
-        if down < M - 1:
-            rates[down][down] = (M - 1 - down) * failure       # to down + 1
-        if down > 0:
-            rates[down][down - 1] = repair                     # to down - 1
+    rewards, rates = repair_shop_parts(rng, M)
     E = max(map(sum, rates))
-    return valid(M, rng.randint(1, 8), random_tolerance(rng), random_time(rng, E),
-                 [M - 1 - down for down in range(M)], rates)
+    return valid(M, rng.randint(1, 8), random_tolerance(rng), random_time(rng, E), rewards, rates)
 
 
 def large_primes(rng):
