@@ -10,7 +10,7 @@ use Rattle.definitions.specs.declared.Run.{Run}
 use Rattle.definitions.specs.Sums.{sum, largest, anyAbove, firsts, over, blocks}
 use Rattle.definitions.specs.Bytes.{big, bytesOf}
 use Rattle.definitions.specs.File.{distributions, rewardField, withReward}
-use Rattle.definitions.specs.Chain.{modelOf, atReward, jumpRate, rowSum, uniformRate, c, maxReward, jumpMillionths}
+use Rattle.definitions.specs.Chain.{Model, modelOf, atReward, jumpRate, rowSum, uniformRate, c, maxReward, jumpMillionths}
 use Rattle.definitions.specs.Rules.{Answer, accepted, saying, framing, quantities, fallsUpTo, listing, jumps, room, rows, seriesRows, firstHeld}
 use Rattle.definitions.specs.Vectors.{ONE, rowMean, rewardShare, mix, nextEntry, firstVectors, nextVectors, U, rowMeans}
 use Rattle.definitions.specs.Weights.{mode, rightward, leftward, weight, weightSum}
@@ -123,7 +123,7 @@ raised-B = record { same-run = refl; no-lower = each }
     each (suc (suc (suc (suc zero)))) = omega arith
     each (suc (suc (suc (suc (suc k))))) = omega arith
 
--- no other run is the same, and no other levels of a list of times
+-- no other run is the same, no other levels of a list of times, and no other count
 pub other-run : (after : List ℕ) → NoLower (withReward fileB 1 1) (record { level = 4; means = 16 }) (replicate 4 0) after → ⊥
 unfolding sum largest anyAbove firsts over big bytesOf distributions withReward jumpRate rowSum uniformRate c maxReward jumpMillionths framing quantities jumps room rows firstHeld rowMeans mode rightward leftward weight weightSum tailBound allowance passes? firstFrom level modelLevel outcome
 other-run after h = omega (arith, ap (λ (a : Answer Run). countAfter (saying (λ x. x .level) a) 0) (h .same-run))
@@ -131,6 +131,14 @@ other-run after h = omega (arith, ap (λ (a : Answer Run). countAfter (saying (�
 pub other-levels : (after : List ℕ) → NoLowerBlocks (withReward fileB 1 1) (1 ∷ 2 ∷ []) 16 (replicate 2 0) (3 ∷ 5 ∷ []) (replicate 8 0) after → ⊥
 unfolding sum largest firsts over big bytesOf distributions withReward jumpRate rowSum uniformRate jumpMillionths mode rightward leftward weight weightSum tailBound allowance passes? firstFrom level modelLevel levelAt levelsAfter
 other-levels after h = omega (arith, ap (λ (l : List ℕ). getD l 1 0) (h .same-levels))
+
+pub other-count : (levels-after after : List ℕ) → NoLowerBlocks (withReward fileB 1 1) (1 ∷ 2 ∷ []) 12 (replicate 2 0) levels-after (replicate 8 0) after → ⊥
+unfolding sum largest anyAbove firsts over big bytesOf distributions withReward jumpRate rowSum uniformRate c maxReward jumpMillionths framing quantities fallsUpTo listing jumps room seriesRows firstHeld rowMeans mode rightward leftward weight weightSum tailBound allowance passes? firstFrom level modelLevel levelAt seriesOutcome
+other-count levels-after after h = omega (arith, ap (λ (a : Answer ℕ). countAfter a 0) (h .same-count))
+
+-- the level of a model is that of the model with the raised rate
+pub raised-model : (m : Model) (i x : ℕ) → NoLowerFigures m i x → modelLevel (atReward m i x) ≡ modelLevel m
+raised-model m i x h = h .same-level
 
 -- what is said of an answer is said of the file with the raised rate
 pub raised-answer : (before after : List ℕ) → NoneLowered (accepted runB) fileB before after → NoLower (withReward fileB 1 1) runB before after

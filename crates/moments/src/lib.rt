@@ -182,9 +182,9 @@ fn fill_listed(file: &[u8], times: &[u32], levels: &mut [u64], cells: &mut [u64]
 // touched; or the number of row means taken, N * M * R with the largest level N, with the level of time k in
 // level cell k and its figures in block k, in the order of `calculate`. Each is what `calculate` gives for the
 // file with that time in the place of its own, and each level is at most 2 * m + 51. The levels past the last
-// time and the cells past the last block are as they were. In each block no figure is above the one before it;
-// and the same call for the file with one reward rate raised, but not past the largest, answers the same, gives
-// the same levels and leaves no cell lower.
+// time and the cells past the last block are as they were. In the cells of a state of each block, and in those of
+// its start, no figure is above the one before it; and the same call for the file with one reward rate raised,
+// but not past the largest, answers the same, gives the same levels and leaves no cell lower.
 pub fn series(file: &[u8], times: &[u32], levels: &mut [u64], cells: &mut [u64]) -> Series
     ensures answer { λ o. ⌜ seriesAnswer o ≡ seriesOutcome (now (file .entry)) (now (times .entry)) (length (now (levels .entry))) (length (now (cells .entry))) ⌝ }
     ensures levels { λ o. ⌜ now (levels .exit) ≡ levelsAfter (seriesAnswer o) (now (file .entry)) (now (times .entry)) (now (levels .entry)) ⌝ }
