@@ -31,14 +31,18 @@ shareDividend ch n r i = rewardProduct ch (U ch n (r - 1) i) i
 abbrev pub mixDividend : Chain → ℕ → ℕ → ℕ → ℕ
 mixDividend ch n r i = mixed n r (meanOf ch n r i) (shareOf ch n r i)
 
--- what the three divisions leave
-unfoldable pub restsAt : Chain → ℕ → ℕ → ℕ → Rests
-restsAt ch n r i =
+-- what the three divisions of a step leave, from before and same
+abbrev pub restsIn : Chain → ℕ → ℕ → (ℕ → ℕ) → (ℕ → ℕ) → ℕ → Rests
+restsIn ch n r before same i =
     record {
-      mean = meanDividend ch n r i % ch .rate;
-      share = shareDividend ch n r i % ch .largestReward;
-      mix = mixDividend ch n r i % (n + r);
+      mean = rowTotal ch before i % ch .rate;
+      share = rewardProduct ch (same i) i % ch .largestReward;
+      mix = mixed n r (rowMean ch before i) (rewardShare ch (same i) i) % (n + r);
     }
+
+-- what those of U(n,r) at i leave
+unfoldable pub restsAt : Chain → ℕ → ℕ → ℕ → Rests
+restsAt ch n r i = restsIn ch n r (U ch (n - 1) r) (U ch n (r - 1)) i
 
 -- the state, counted from 1, is outside 1 to M, n outside 1 to N or r outside 1 to R
 abbrev pub anyOutside : Model → ℕ → ℕ → ℕ → Bool
@@ -64,11 +68,16 @@ numberAfter (accepted (given x)) which before = which x
 numberAfter (accepted none) which before = before
 numberAfter (refused k) which before = before
 
--- the three divisions of U(n,r) at i with their remainders: each dividend, divisor and quotient is the one by which the vectors come about
-pub record Worked (ch : Chain) (n r i : ℕ) (x : Rests) : Type 0 where
-  pub mean : Divides (meanDividend ch n r i) (ch .rate) (meanOf ch n r i) (x .mean)
-  pub share : Divides (shareDividend ch n r i) (ch .largestReward) (shareOf ch n r i) (x .share)
-  pub mix : Divides (mixDividend ch n r i) (n + r) (U ch n r i) (x .mix)
+-- the three divisions of a step at i, from before, which is U(n−1,r), and same, which is U(n,r−1), to the entry u, and what they leave: V by E, W by F, and U by
+-- n + r
+pub record StepDivides (ch : Chain) (n r : ℕ) (before same : ℕ → ℕ) (i u : ℕ) (x : Rests) : Type 0 where
+  pub mean : Divides (rowTotal ch before i) (ch .rate) (rowMean ch before i) (x .mean)
+  pub share : Divides (rewardProduct ch (same i) i) (ch .largestReward) (rewardShare ch (same i) i) (x .share)
+  pub mix : Divides (mixed n r (rowMean ch before i) (rewardShare ch (same i) i)) (n + r) u (x .mix)
+
+-- those of U(n,r) at i: each dividend, divisor and quotient is the one by which the vectors come about
+abbrev pub Worked : Chain → ℕ → ℕ → ℕ → Rests → Type 0
+Worked ch n r i x = StepDivides ch n r (U ch (n - 1) r) (U ch n (r - 1)) i (U ch n r i) x
 
 -- of an answer: remainders that are given are those of U(n,r) at the state
 abbrev pub WorkedOut : Answer (Maybe Rests) → List ℕ → ℕ → ℕ → ℕ → Type 0

@@ -7,10 +7,10 @@ use mathlib.Core.List.{List}
 use Rattle.definitions.specs.declared.Rests.{Rests}
 use Rattle.definitions.specs.Chain.{Model, Chain, modelOf, chainOf}
 use Rattle.definitions.specs.Rules.{Answer, accepted, refused, outside, fileRows, fileJudgement}
-use Rattle.definitions.specs.Vectors.{rowMean, rewardShare, mixed, mix, nextEntry, U}
+use Rattle.definitions.specs.Vectors.{rowTotal, rowMean, rewardProduct, rewardShare, mixed, mix, nextEntry, U}
 use Rattle.definitions.specs.Moment.{modelLevel}
 use Rattle.definitions.specs.Maybe.{none, given}
-use Rattle.definitions.specs.Remainders.{meanOf, meanDividend, shareOf, shareDividend, mixDividend, restsAt, anyOutside, restsOf, remaindersOf, Worked, WorkedOut}
+use Rattle.definitions.specs.Remainders.{meanDividend, shareDividend, mixDividend, restsIn, restsAt, anyOutside, restsOf, remaindersOf, StepDivides, Worked, WorkedOut}
 use Rattle.laws.specs.Rounding.{divides}
 use Rattle.laws.specs.RuleLaws.{also-refused, also-accepted}
 use Rattle.laws.specs.RowLaws.{neither, in-range}
@@ -18,25 +18,29 @@ use Rattle.laws.specs.Acceptance.{AcceptedModel, accepted-model}
 use Rattle.laws.specs.ChainLaws.{SameChain}
 use Rattle.laws.specs.VectorLaws.{U-next, rowTotal-same, U-same}
 
--- U(n,r) is the mix of its V and W
-U-mixed : (ch : Chain) (n r i : ℕ) → 1 ≤ n → 1 ≤ r → U ch n r i ≡ mix n r (meanOf ch n r i) (shareOf ch n r i)
-unfolding nextEntry
-U-mixed ch zero r i hn hr = absurd (omega arith)
-U-mixed ch (suc n) zero i hn hr = absurd (omega arith)
-U-mixed ch (suc n) (suc r) i hn hr = rw (less n, less r) (U-next ch n r i)
+-- U(n,r) is the next entry of U(n−1,r) and U(n,r−1)
+U-entry : (ch : Chain) (n r i : ℕ) → 1 ≤ n → 1 ≤ r → U ch n r i ≡ nextEntry ch n r (U ch (n - 1) r) (U ch n (r - 1)) i
+U-entry ch zero r i hn hr = absurd (omega arith)
+U-entry ch (suc n) zero i hn hr = absurd (omega arith)
+U-entry ch (suc n) (suc r) i hn hr = rw (less n, less r) (U-next ch n r i)
   where
     less : (k : ℕ) → suc k - 1 ≡ k
     less k = omega arith
 
--- quotient × divisor + remainder is the dividend, the remainder is below the divisor, and the quotients are V, W and U(n,r)
-pub worked : (ch : Chain) (n r i : ℕ) → 0 < ch .rate → 0 < ch .largestReward → 1 ≤ n → 1 ≤ r → Worked ch n r i (restsAt ch n r i)
-unfolding restsAt rowMean rewardShare mix
-worked ch n r i rate-pos reward-pos hn hr =
+-- a step's divisions: quotient × divisor + remainder is the dividend, the remainder is below the divisor, and the quotients are V, W and the next entry
+pub step-divides : (ch : Chain) (n r : ℕ) (before same : ℕ → ℕ) (i : ℕ) → 0 < ch .rate → 0 < ch .largestReward → 0 < n + r → StepDivides ch n r before same i (nextEntry ch n r before same i) (restsIn ch n r before same i)
+unfolding nextEntry rowMean rewardShare mix
+step-divides ch n r before same i rate-pos reward-pos some =
     record {
-      mean = divides (meanDividend ch n r i) (ch .rate) rate-pos;
-      share = divides (shareDividend ch n r i) (ch .largestReward) reward-pos;
-      mix = rw (U-mixed ch n r i hn hr) (divides (mixDividend ch n r i) (n + r) (omega arith));
+      mean = divides (rowTotal ch before i) (ch .rate) rate-pos;
+      share = divides (rewardProduct ch (same i) i) (ch .largestReward) reward-pos;
+      mix = divides (mixed n r (rowMean ch before i) (rewardShare ch (same i) i)) (n + r) some;
     }
+
+-- those of U(n,r)
+pub worked : (ch : Chain) (n r i : ℕ) → 0 < ch .rate → 0 < ch .largestReward → 1 ≤ n → 1 ≤ r → Worked ch n r i (restsAt ch n r i)
+unfolding restsAt
+worked ch n r i rate-pos reward-pos hn hr = rw (U-entry ch n r i hn hr) (step-divides ch n r (U ch (n - 1) r) (U ch n (r - 1)) i rate-pos reward-pos (omega arith))
 
 -- remainders that are the same one by one
 pub same-rests : (x y : Rests) → x .mean ≡ y .mean → x .share ≡ y .share → x .mix ≡ y .mix → x ≡ y
