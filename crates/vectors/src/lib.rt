@@ -13,6 +13,7 @@ ghost use Rattle.definitions.specs.Vectors.{rowTotal, rewardShare, mixed, nextE
 ghost use Rattle.laws.specs.ArrayLaws.{entryOf};
 ghost use Rattle.vectors.specs.Ready.{RowReady, MixReady, StepReady, Ticks, RewardsReady, Ready};
 ghost use Rattle.vectors.specs.Table.{blank, tableOf};
+ghost use Rattle.vectors.specs.Divisions.{InOrder, StepDrops, SharesDrop};
 use definitions::Division;
 use definitions::ONE;
 use definitions::Sizes;
@@ -23,7 +24,8 @@ fn wide(x: u32) -> u64
     x as u64
 }
 
-// V: the sum over j of c(i,j) * v(j), by E. It adds what row i lists, in the list's order, and reads no reward.
+// V: the sum over j of c(i,j) * v(j), by E. It reads no reward. Of a model whose rows the places hold, it adds the states with a
+// rate above 0 and the diagonal, from the highest to the lowest.
 pub fn row_mean(
     sizes: Sizes,
     targets: &[u8],
@@ -33,7 +35,8 @@ pub fn row_mean(
     i: usize,
 ) -> Division
     requires { ⌜ RowReady sizes (listed (now targets) (now rates) (now counts)) (now v) i ⌝ }
-    ensures { λ d. ⌜ ((f : List ℕ) → d ≡ division (rowTotal (arrays sizes (listed (now (targets .entry)) (now (rates .entry)) (now (counts .entry))) f) (entryOf (now (v .entry))) i) (sizes .rate)) ⌝ }
+    ensures mean { λ d. ⌜ ((f : List ℕ) → d ≡ division (rowTotal (arrays sizes (listed (now (targets .entry)) (now (rates .entry)) (now (counts .entry))) f) (entryOf (now (v .entry))) i) (sizes .rate)) ⌝ }
+    ensures order { λ d. ⌜ InOrder sizes (listed (now (targets .entry)) (now (rates .entry)) (now (counts .entry))) (now (v .entry)) i d ⌝ }
 {
     let first = i * sizes.states;
     let count = counts[i];
@@ -61,8 +64,8 @@ pub fn mix(n: u64, r: u64, v: u64, w: u64) -> Division
     muldiv::divide(n * v + r * w, n + r)
 }
 
-// U(n,r) of U(n-1,r), before, and U(n,r-1), same: at the states, and 0 past them. The three remainders are dropped. Each row
-// mean adds one to the count of those taken.
+// U(n,r) of U(n-1,r), before, and U(n,r-1), same: at the states, and 0 past them. The remainders of V by E, of W by F and of U by
+// n + r are dropped. Each row mean adds one to the count of those taken.
 pub fn step(
     sizes: Sizes,
     targets: &[u8],
@@ -77,6 +80,7 @@ pub fn step(
 ) -> [u64; 64]
     requires { ⌜ StepReady sizes (listed (now targets) (now rates) (now counts)) (now rewards) n r before same × (now taken + sizes .states < 2 ^ 64) ⌝ }
     ensures vector { λ u. ⌜ u ≡ padded (sizes .states) (nextEntry (arrays sizes (listed (now (targets .entry)) (now (rates .entry)) (now (counts .entry))) (now (rewards .entry))) n r (entryOf before) (entryOf same)) ⌝ }
+    ensures dropped { λ u. ⌜ StepDrops (arrays sizes (listed (now (targets .entry)) (now (rates .entry)) (now (counts .entry))) (now (rewards .entry))) n r before same u ⌝ }
     ensures taken { λ u. ⌜ now (taken .exit) ≡ now (taken .entry) + sizes .states ⌝ }
 {
     let states = sizes.states;
@@ -106,7 +110,8 @@ fn ones(states: usize) -> [u64; 64]
 // U(0,r) of U(0,r-1), same: W at the states, its remainder dropped, and 0 past them. It reads no chain.
 fn shares(sizes: Sizes, rewards: &[u64; 64], same: [u64; 64]) -> [u64; 64]
     requires { ⌜ RewardsReady sizes (now rewards) × Ticks (sizes .states) same ⌝ }
-    ensures { λ u. ⌜ ((a : Listing) → u ≡ padded (sizes .states) (λ i. rewardShare (arrays sizes a (now (rewards .entry))) (getD same i 0) i)) ⌝ }
+    ensures vector { λ u. ⌜ ((a : Listing) → u ≡ padded (sizes .states) (λ i. rewardShare (arrays sizes a (now (rewards .entry))) (getD same i 0) i)) ⌝ }
+    ensures dropped { λ u. ⌜ SharesDrop sizes (now (rewards .entry)) same u ⌝ }
 {
     let states = sizes.states;
     let mut next = [0u64; 64];

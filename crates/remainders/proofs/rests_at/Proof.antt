@@ -122,7 +122,7 @@ module _ (c : tie.After-mix) where
   share = c .before .reward-share .result
 
   abbrev mean-divided : mean ≡ division (rowTotal (ch d) (entryOf (before d)) i) (begin .args .sizes .rate)
-  mean-divided = c .before .before .before .before .row-mean .ensures (begin .args .rewards .now)
+  mean-divided = c .before .before .before .before .row-mean .ensures .0 (begin .args .rewards .now)
 
   mean-is : mean .quotient ≡ meanOf (ch d) n r i
   unfolding rowMean

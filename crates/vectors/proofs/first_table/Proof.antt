@@ -50,7 +50,7 @@ loop-again c =
       λ a.
           let ch = held start a in
           table-more ch 0 blank (turn .r) (turn .table) (blank-zeros 0 .rows) (omega arith) (turn .inv .2 a)
-          (c .shares .ensures a
+          (c .shares .ensures .0 a
           ∙ ap (λ (v : List ℕ). padded (ch .states) (λ i. rewardShare ch (getD v i 0) i)) (row-before (c .before .before) a)
           ∙ vector-first ch (omega arith) (turn .r) (omega arith)),
     )

@@ -77,7 +77,7 @@ loop-again c =
     let n = start turn .args .n in (
       omega arith,
       omega arith,
-      omega (arith, turn .before .loop .inv .2, c .step .ensures .1),
+      omega (arith, turn .before .loop .inv .2, c .step .ensures .1 .1),
       table-more ch n (old turn) (r turn) (turn .before .loop .table) (table-zeros ch (start turn .args .sizes .highest) (n - 1) (omega arith) .rows) (omega arith) (turn .before .loop .inv .3)
           (c .step .ensures .0
           ∙ ap₂ (λ (a b : List ℕ). padded (ch .states) (nextEntry ch n (r turn) (entryOf a) (entryOf b))) (row-before turn) (row-same turn)

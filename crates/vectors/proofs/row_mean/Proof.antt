@@ -4,6 +4,7 @@ use Prim.Native.Nat.{ℕ, _+_, _*_, _-_, _/_, _%_, _≤_, _<_, _^_}
 use denote.Ref.{now}
 use native.Mathlib.Omega.{arith}
 use lib.ListN.{getD}
+use Rattle.definitions.specs.Division.{division}
 use Rattle.definitions.specs.Sums.{sum}
 use Rattle.definitions.specs.Chain.{listed}
 use Rattle.laws.specs.SumLaws.{sum-zero, sum-more, sum-part}
@@ -11,6 +12,7 @@ use Rattle.laws.specs.Rounding.{quotient, remainder, same-parts, place-below}
 use Rattle.laws.specs.ChainLaws.{square-max}
 use Rattle.vectors.specs.Ready.{productAt}
 use Rattle.vectors.specs.ReadyLaws.{row-total}
+use Rattle.vectors.specs.DivisionLaws.{row-added}
 use Rattle.vectors.proofs.row_mean.Statement.{statement}
 use Rattle.vectors.proofs.row_mean.Tie as tie
 
@@ -76,15 +78,21 @@ loop-again c =
     let widened = c .before in
     (omega (arith, added widened, sum-more (k (d widened)) (row (start (d widened)))), omega arith)
 
-returns : tie.Need-returns Inv-loop μ-loop
-returns c = λ f.
-    let begin = c .before .before .before .before .before .before .before in
-    let args = begin .args in
-    let rate = args .sizes .rate in
-    let all : c .before .before .loop .k ≡ getD (now (args .counts)) (args .i) 0 = omega arith in
-    let whole = c .before .before .loop .inv .0 ∙ ap (λ (n : ℕ). sum n (row begin)) all ∙ sym (row-total (listed (now (args .targets)) (now (args .rates)) (now (args .counts))) (now (args .v)) (args .i) (begin .pre .places) (begin .pre .state)) in
+-- the total, divided by E, is any sum that it is equal to, divided by E
+divided : (c : tie.After-divide Inv-loop μ-loop) (total : ℕ) → c .before .before .loop .total ≡ total → c .divide .result ≡ division total (c .before .before .before .before .before .before .before .args .sizes .rate)
+divided c total whole =
+    let rate = c .before .before .before .before .before .before .before .args .sizes .rate in
     same-parts _ _ (omega (arith, ap quotient (c .divide .ensures), ap (λ (n : ℕ). n / rate) whole))
     (omega (arith, ap remainder (c .divide .ensures), ap (λ (n : ℕ). n % rate) whole))
+
+returns : tie.Need-returns Inv-loop μ-loop
+returns c =
+    let begin = c .before .before .before .before .before .before .before in
+    let args = begin .args in
+    let a = listed (now (args .targets)) (now (args .rates)) (now (args .counts)) in
+    let all : c .before .before .loop .k ≡ getD (now (args .counts)) (args .i) 0 = omega arith in
+    let whole = c .before .before .loop .inv .0 ∙ ap (λ (n : ℕ). sum n (row begin)) all in
+    ((λ f. divided c _ (whole ∙ sym (row-total a (now (args .v)) (args .i) (begin .pre .places) (begin .pre .state)))), λ m rows e. divided c _ (whole ∙ row-added m a (now (args .v)) (args .i) rows e (begin .pre .state)))
 
 pub row-mean-spec : {M : Type 1} → statement M
 row-mean-spec =

@@ -1,15 +1,17 @@
 -- `vectors::shares` meets its contract. Assumes nothing.
+use mathlib.Core.List.{[]}
 use mathlib.Core.Path.{_≡_, sym, ap, _∙_}
 use Prim.Native.Nat.{ℕ, _-_, _≤_}
 use native.Mathlib.Omega.{arith}
 use denote.Ref.{now}
 use lib.ListN.{getD}
 use Rattle.definitions.specs.Sums.{over}
-use Rattle.definitions.specs.Chain.{Listing, arrays}
+use Rattle.definitions.specs.Chain.{Listing, listed, arrays}
 use Rattle.definitions.specs.Vectors.{rewardShare}
 use Rattle.laws.specs.Rounding.{quotient}
 use Rattle.laws.specs.ListLaws.{over-none, over-store}
 use Rattle.laws.specs.ArrayLaws.{zeros, length-zeros, over-padded}
+use Rattle.vectors.specs.DivisionLaws.{shares-drop}
 use Rattle.vectors.proofs.shares.Statement.{statement}
 use Rattle.vectors.proofs.shares.Tie as tie
 
@@ -42,11 +44,11 @@ loop-again c =
     (omega arith, λ a. over-store (turn .i) (share start a) (zeros 64) (turn .next) (c .reward-share .result .quotient) (omega (arith, length-zeros 64)) (turn .inv .1 a) (ap quotient (c .reward-share .ensures)))
 
 returns : tie.Need-returns Inv-loop μ-loop
-returns c = λ a.
+returns c =
     let start = c .before .before in
     let turn = c .before .loop in
     let all : turn .i ≡ start .args .sizes .states = omega arith in
-    rw all at (turn .inv .1 a) ∙ over-padded _ (share start a) (omega arith)
+    ((λ a. rw all at (turn .inv .1 a) ∙ over-padded _ (share start a) (omega arith)), shares-drop (start .args .t3) (start .pre .0) (rw all at (turn .inv .1 (listed [] [] [])) ∙ over-padded _ (share start (listed [] [] [])) (omega arith)))
 
 pub shares-spec : {M : Type 1} → statement M
 shares-spec =

@@ -10,6 +10,7 @@ use Rattle.laws.specs.Rounding.{quotient}
 use Rattle.laws.specs.ListLaws.{over-none, over-store}
 use Rattle.laws.specs.ArrayLaws.{entryOf, zeros, length-zeros, over-padded}
 use Rattle.vectors.specs.ReadyLaws.{row-ready, mix-ready}
+use Rattle.vectors.specs.DivisionLaws.{step-drops}
 use Rattle.vectors.proofs.step.Statement.{statement}
 use Rattle.vectors.proofs.step.Tie as tie
 
@@ -45,7 +46,7 @@ mix-requires c κs =
     let start = c .before .before .before .before .before .before .before .before .before in
     let mean = c .before .before .before .row-mean in
     mix-ready (start .pre .0) (c .before .before .before .before .before .before .loop .i) (omega arith) (mean .result .quotient) (c .reward-share .result .quotient)
-    (ap quotient (mean .ensures (now (start .args .rewards)))) (ap quotient (c .reward-share .ensures))
+    (ap quotient (mean .ensures .0 (now (start .args .rewards)))) (ap quotient (c .reward-share .ensures))
 
 loop-again : tie.Need-loop-again Inv-loop μ-loop
 unfolding rowMean rewardShare mix nextEntry
@@ -53,7 +54,7 @@ loop-again c =
     let start = c .before .before .before .before .before .before .before .before .before .before in
     let turn = c .before .before .before .before .before .before .before .loop in
     let args = start .args in
-    let mean = ap quotient (c .before .before .before .before .row-mean .ensures (now (args .rewards))) in
+    let mean = ap quotient (c .before .before .before .before .row-mean .ensures .0 (now (args .rewards))) in
     let share = ap quotient (c .before .reward-share .ensures) in (
       omega arith,
       omega arith,
@@ -66,7 +67,8 @@ returns c =
     let start = c .before .before .before .before in
     let turn = c .before .loop in
     let all : turn .i ≡ start .args .sizes .states = omega arith in
-    (rw all at (turn .inv .2) ∙ over-padded _ (u start) (omega arith), omega arith)
+    let vector = rw all at (turn .inv .2) ∙ over-padded _ (u start) (omega arith) in
+    (vector, (step-drops (start .pre .0) vector, omega arith))
 
 pub step-spec : {M : Type 1} → statement M
 step-spec =
