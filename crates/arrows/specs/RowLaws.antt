@@ -1,4 +1,4 @@
--- Rows that are stored in one list are read from it again, and with all of them stored the arrays hold the model's rows. Assumes nothing.
+-- A row is listed state by state, and with all rows stored the arrays hold the model's rows. Assumes nothing.
 use Prim.Native.Nat.{ℕ, zero, suc, _+_, _*_, _-_, _≤_, _<_}
 use native.Mathlib.Nat.{mul-le-mul-right}
 use native.Mathlib.Numerals.{add-one}
@@ -10,13 +10,13 @@ use mathlib.Core.List.{List, [], _∷_, map}
 use lib.Dec.{eqb, ltb}
 use lib.ListN.{length, getD, set, drop, length-set, length-drop, length-map}
 use lib.Seq.{sets, length-sets, length-take-le, getD-take, getD-drop, ext-getD}
-use Rattle.definitions.specs.Sums.{over, pick}
+use Rattle.definitions.specs.Sums.{over, rowsStored, pick}
 use Rattle.definitions.specs.Chain.{Model, Listing, rowSum, uniformRate, c, listed}
 use Rattle.definitions.specs.Arrows.{falling, isAdded, addedStates, statesIn, ListsRows}
 use Rattle.laws.specs.ListLaws.{getD-map, getD-over}
-use Rattle.laws.specs.ByteLaws.{sets-before, sets-inside}
+use Rattle.laws.specs.StoredLaws.{length-stored, getD-stored}
 use Rattle.laws.specs.ArrowLaws.{falling-takes, falling-leaves, length-falling, row-listed, HoldsRows}
-use Rattle.arrows.specs.Rows.{rowsStored, DownTo}
+use Rattle.arrows.specs.Rows.{DownTo}
 
 -- what is read of the file's row is the entry of c, and is_added tells whether the row's mean adds its state
 pub entry-of-row : (m : Model) (i j diagonal : ℕ) → diagonal ≡ uniformRate m - rowSum m i → pick (eqb j i) diagonal (m .transition i j) ≡ c m i j
@@ -77,36 +77,6 @@ module _ (m : Model) (i first : ℕ) (targets₀ rates₀ : List ℕ) where
             same-rates = length-set rates (first + k) x ∙ before .same-rates;
           }
 
-module _ (row : ℕ → List ℕ) (M : ℕ) (fits : (i : ℕ) → length (row i) ≤ M) (l : List ℕ) where
-  pub none-stored : l ≡ rowsStored row M 0 l
-  unfolding rowsStored
-  none-stored = refl
-
-  pub length-stored : (n : ℕ) → length (rowsStored row M n l) ≡ length l
-  unfolding rowsStored
-  length-stored zero = refl
-  length-stored (suc n) = length-sets (rowsStored row M n l) (n * M) (row n) ∙ length-stored n
-
-  -- place k of row i
-  getD-stored : (n i k : ℕ) → n * M ≤ length l → i < n → k < length (row i) → getD (rowsStored row M n l) (i * M + k) 0 ≡ getD (row i) k 0
-  unfolding rowsStored
-  getD-stored zero i k room h b = absurd (omega arith)
-  getD-stored (suc n) i k room h b =
-      elim (ℕ-discrete i n) [
-        | yes e ↦ rw e (sets-inside (rowsStored row M n l) (n * M) (row n) k (omega (arith, room, length-stored n, fits n)) (rw e at b))
-        | no ne ↦
-            sets-before (rowsStored row M n l) (n * M) (row n) (i * M + k) (omega (arith, b, fits i, mul-le-mul-right M (earlier ne)))
-            ∙ getD-stored n i k (omega (arith, room)) (omega arith) b
-      ]
-    where
-      earlier : (i ≡ n → ⊥) → suc i ≤ n
-      earlier ne = omega arith
-
-  -- one row more, as code counts
-  pub stored-more : (n : ℕ) → sets (rowsStored row M n l) (n * M) (row n) ≡ rowsStored row M (n + 1) l
-  unfolding rowsStored
-  stored-more n = rw add-one refl
-
 module _ (m : Model) where
   pub added-fits : (i : ℕ) → length (addedStates m i) ≤ m .states
   unfolding addedStates
@@ -115,21 +85,21 @@ module _ (m : Model) where
   abbrev entries : ℕ → List ℕ
   entries i = map (c m i) (addedStates m i)
 
-  pub entries-fit : (i : ℕ) → length (map (c m i) (addedStates m i)) ≤ m .states
+  entries-fit : (i : ℕ) → length (map (c m i) (addedStates m i)) ≤ m .states
   entries-fit i = omega (arith, length-map (addedStates m i) (c m i), added-fits i)
 
   -- with every row stored, the arrays hold the rows
   pub rows-listed : (targets rates counts t r k : List ℕ) → m .states * m .states ≤ length targets → m .states * m .states ≤ length rates → t ≡ rowsStored (addedStates m) (m .states) (m .states) targets → r ≡ rowsStored (λ i. map (c m i) (addedStates m i)) (m .states) (m .states) rates → k ≡ over (m .states) (λ i. length (addedStates m i)) counts → HoldsRows m (listed t r k)
   rows-listed targets rates counts t r k troom rroom et er ek =
       record {
-        target-room = omega (arith, troom, ap length et, length-stored (addedStates m) (m .states) added-fits targets (m .states));
-        rate-room = omega (arith, rroom, ap length er, length-stored entries (m .states) entries-fit rates (m .states));
+        target-room = omega (arith, troom, ap length et, length-stored (addedStates m) (m .states) targets (m .states));
+        rate-room = omega (arith, rroom, ap length er, length-stored entries (m .states) rates (m .states));
         count = λ i l. ap (λ (x : List ℕ). getD x i 0) ek ∙ getD-over 0 (m .states) (λ i. length (addedStates m i)) counts i l;
-        target = λ i p l b. ap (λ (x : List ℕ). getD x (i * m .states + p) 0) et ∙ getD-stored (addedStates m) (m .states) added-fits targets (m .states) i p troom l b;
+        target = λ i p l b. ap (λ (x : List ℕ). getD x (i * m .states + p) 0) et ∙ getD-stored (addedStates m) (m .states) targets (m .states) (λ i l. added-fits i) i p troom l b;
         rate =
             λ i p l b.
             ap (λ (x : List ℕ). getD x (i * m .states + p) 0) er
-            ∙ getD-stored entries (m .states) entries-fit rates (m .states) i p rroom l (omega (arith, b, length-map (addedStates m i) (c m i)))
+            ∙ getD-stored entries (m .states) rates (m .states) (λ i l. entries-fit i) i p rroom l (omega (arith, b, length-map (addedStates m i) (c m i)))
             ∙ getD-map (c m i) (addedStates m i) p 0 0 b;
       }
 

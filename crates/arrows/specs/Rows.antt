@@ -1,4 +1,4 @@
--- The rows of a file in one list, M places for each, and what is asked where a row is listed. Assumes nothing: these are definitions.
+-- What is asked where a row of a file is listed, and what is kept while it is. Assumes nothing: these are definitions.
 use Prim.Native.Nat.{ℕ, zero, suc, _+_, _*_, _-_, _≤_, _<_, _^_}
 use mathlib.Core.Path.{_≡_}
 use mathlib.Core.List.{List, map}
@@ -8,11 +8,6 @@ use Rattle.definitions.specs.File.{stateCount}
 use Rattle.definitions.specs.Chain.{Model, modelOf, rowSum, uniformRate, c}
 use Rattle.definitions.specs.Arrows.{falling, isAdded, addedStates}
 use Rattle.laws.specs.Acceptance.{Framed}
-
--- the list l with the first n rows stored in it, row i from place i × M on
-unfoldable pub rowsStored : (ℕ → List ℕ) → ℕ → ℕ → List ℕ → List ℕ
-rowsStored row M zero l = l
-rowsStored row M (suc i) l = sets (rowsStored row M i l) (i * M) (row i)
 
 -- row i of a framed file, what stands on its diagonal, and how many places are lent for targets and for rates
 pub record RowAsked (s : List ℕ) (i diagonal target-places rate-places : ℕ) : Type 0 where

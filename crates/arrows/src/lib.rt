@@ -10,12 +10,12 @@ ghost use Prim.Native.Nat.{_*_, _≤_, _<_, _^_};
 ghost use lib.Dec.{eqb, ltb};
 ghost use lib.ListN.{length};
 ghost use lib.Seq.{sets};
-ghost use Rattle.definitions.specs.Sums.{over};
+ghost use Rattle.definitions.specs.Sums.{over, rowsStored};
 ghost use Rattle.definitions.specs.File.{stateCount};
 ghost use Rattle.definitions.specs.Chain.{modelOf, rowSum, uniformRate, c, padded, listed};
 ghost use Rattle.definitions.specs.Arrows.{addedStates, ListsRows};
 ghost use Rattle.laws.specs.Acceptance.{Framed};
-ghost use Rattle.arrows.specs.Rows.{rowsStored, RowAsked};
+ghost use Rattle.arrows.specs.Rows.{RowAsked};
 
 // Whether row i's mean adds state j: on the diagonal, and where the rate is above 0. The entry is c(i,j).
 fn is_added(i: usize, j: usize, entry: u64) -> bool

@@ -3,6 +3,7 @@ use Prim.Native.Nat.{ℕ, zero, suc, _+_, _*_, _/_, _%_, max}
 use mathlib.Core.List.{List, [], _∷_, _++_}
 use mathlib.Core.Bool.{Bool, true, false, _||_}
 use lib.ListN.{drop}
+use lib.Seq.{sets}
 use lib.Dec.{ltb}
 
 -- f 0 + … + f (n − 1)
@@ -32,6 +33,11 @@ over n f l = firsts n f ++ drop n l
 -- the list l with its first count blocks, of size entries each, replaced: entry c of block k is f k c; the rest as in l
 unfoldable pub blocks : {A : Type 0} → ℕ → ℕ → (ℕ → ℕ → A) → List A → List A
 blocks size count f l = over (count * size) (λ p. f (p / size) (p % size)) l
+
+-- the list l with n rows stored in it, row i from place i × size on; the other places as in l
+unfoldable pub rowsStored : (ℕ → List ℕ) → ℕ → ℕ → List ℕ → List ℕ
+rowsStored row size zero l = l
+rowsStored row size (suc i) l = sets (rowsStored row size i l) (i * size) (row i)
 
 -- a where the test holds, b where it does not
 abbrev pub pick : {A : Type 0} → Bool → A → A → A

@@ -40,7 +40,7 @@ module _ {A : Type 0} where
   getD-part d a k l i h = getD-take k (drop a l) i d h ∙ getD-drop a l i d
 
   -- such a part, filled up to n and put back
-  put-back : (a k n : ℕ) (g : ℕ → A) (l : List A) → n ≤ length (take k (drop a l)) → take a l ++ (over n g (take k (drop a l)) ++ drop k (drop a l)) ≡ take a l ++ over n g (drop a l)
+  pub put-back : (a k n : ℕ) (g : ℕ → A) (l : List A) → n ≤ length (take k (drop a l)) → take a l ++ (over n g (take k (drop a l)) ++ drop k (drop a l)) ≡ take a l ++ over n g (drop a l)
   unfolding over
   put-back a k n g l h =
       ap (λ (x : List A). take a l ++ x)

@@ -5,6 +5,7 @@ pub mod SumLaws
 pub mod ListLaws
 pub mod ByteLaws
 pub mod BlockLaws
+pub mod StoredLaws
 pub mod WordLaws
 pub mod FieldLaws
 pub mod ChainLaws

@@ -4,14 +4,15 @@ use mathlib.Core.Path.{_≡_}
 use Prim.Native.Nat.{ℕ, _+_, _*_, _/_, _%_, _≤_, _<_}
 use lib.ListN.{length, getD}
 use Rattle.definitions.specs.declared.Sizes.{Sizes}
-use Rattle.definitions.specs.Sums.{largest, over}
+use Rattle.definitions.specs.Sums.{largest, firsts, over, rowsStored}
 use Rattle.definitions.specs.Chain.{Chain, Listing}
 use Rattle.definitions.specs.Vectors.{U}
 use Rattle.definitions.specs.Weights.{weight, weightSum}
 use Rattle.definitions.specs.Level.{level}
 use Rattle.definitions.specs.Moment.{weightedMean}
+use Rattle.laws.specs.LevelLaws.{LEVELS}
 use Rattle.vectors.specs.Ready.{Ready}
-use Rattle.means.specs.Running.{rowFrom, ofStates, Fitting}
+use Rattle.means.specs.Running.{ofStates, Fitting}
 
 -- the limits of document 01, of a list of X and ε, and at most 8 X
 pub record Truncatable (xs : List ℕ) (ε : ℕ) : Type 0 where
@@ -28,16 +29,20 @@ levelOf xs ε k = level (getD xs k 0) ε
 abbrev pub totalOf : List ℕ → ℕ → ℕ → ℕ
 totalOf xs ε k = weightSum (getD xs k 0) (levelOf xs ε k)
 
--- row k of the weights holds w(0) to w(N) of X number k
-abbrev pub RowHolds : List ℕ → ℕ → List ℕ → ℕ → Type 0
-RowHolds xs ε w k = (n : ℕ) → n ≤ levelOf xs ε k → getD (rowFrom w k) n 0 ≡ weight (getD xs k 0) n
+-- its weights, w(0) to w(N)
+abbrev pub weightRow : List ℕ → ℕ → ℕ → List ℕ
+weightRow xs ε k = firsts (levelOf xs ε k + 1) (weight (getD xs k 0))
 
--- each X has its level, its S(N) and its weights, and top is the largest level
-pub record Truncations (xs : List ℕ) (ε top : ℕ) (before levels totals w : List ℕ) : Type 0 where
+-- the rows of weights, LEVELS entries for each X: those of X number k stand in row k, and all other entries are as before
+abbrev pub weightRows : List ℕ → ℕ → List ℕ → List ℕ
+weightRows xs ε before = rowsStored (weightRow xs ε) LEVELS (length xs) before
+
+-- each X has its level, its S(N) and its weights, what is lent past them is as before, and top is the largest level
+pub record Truncations (xs : List ℕ) (ε top : ℕ) (levels₀ levels totals₀ totals w₀ w : List ℕ) : Type 0 where
   pub is-largest : top ≡ largest (length xs) (levelOf xs ε)
-  pub are-levels : levels ≡ over (length xs) (levelOf xs ε) before
-  pub are-totals : (k : ℕ) → k < length xs → getD totals k 0 ≡ totalOf xs ε k
-  pub rows : (k : ℕ) → k < length xs → RowHolds xs ε w k
+  pub are-levels : levels ≡ over (length xs) (levelOf xs ε) levels₀
+  pub are-totals : totals ≡ over (length xs) (totalOf xs ε) totals₀
+  pub are-weights : w ≡ weightRows xs ε w₀
 
 -- what stands in cell k: the weighted mean of U(n,r) at i, for the state i and the r of the cell; past the states 0
 unfoldable pub cellMean : Chain → ℕ → ℕ → ℕ → ℕ → ℕ

@@ -1,65 +1,45 @@
 -- The rows of weights, and that the sums and their quotients are the weighted means.
-use mathlib.Core.List.{List, _++_}
+use mathlib.Core.List.{List}
 use mathlib.Core.Path.{_≡_, sym, _∙_, ap, ap₂}
 use Prim.Native.Nat.{ℕ, suc, _+_, _*_, _/_, _%_, _≤_, _<_, min}
-use native.Mathlib.Decide.{ℕ-discrete, decLt}
+use native.Mathlib.Decide.{decLt}
 use native.Mathlib.Omega.{arith}
-use lib.ListN.{length, getD, take, drop, List·getD-append}
-use lib.Seq.{length-take-le, getD-take, getD-drop, drop-at}
+use lib.ListN.{length, getD, take}
+use lib.Seq.{length-take-le, getD-take, getD-drop}
 use Rattle.definitions.specs.declared.Sizes.{Sizes}
-use Rattle.definitions.specs.Sums.{over, blocks}
+use Rattle.definitions.specs.Sums.{blocks}
 use Rattle.definitions.specs.Chain.{Chain, Listing, arrays}
 use Rattle.definitions.specs.Vectors.{U}
 use Rattle.definitions.specs.Weights.{weight}
 use Rattle.definitions.specs.Moment.{term, weighted, lastQuotient, weightedMean}
 use Rattle.laws.specs.SumLaws.{sum-same, sum-constant, le-largest, largest-le}
-use Rattle.laws.specs.ListLaws.{length-over, getD-over}
-use Rattle.laws.specs.BlockLaws.{block-end, blocks-same, blocks-again}
+use Rattle.laws.specs.ListLaws.{length-firsts, getD-firsts, length-over, getD-over}
+use Rattle.laws.specs.StoredLaws.{length-stored, getD-stored}
+use Rattle.laws.specs.BlockLaws.{blocks-same, blocks-again}
 use Rattle.laws.specs.VectorLaws.{U-bound}
 use Rattle.laws.specs.WeightLaws.{weight-max, weightSum-min, weightSum-max}
 use Rattle.laws.specs.LevelLaws.{LEVELS, level-max, level-mode}
 use Rattle.laws.specs.MomentLaws.{state-of-cell, weighted-max, last-none}
 use Rattle.means.specs.Running.{rowFrom, partSum, partSums, Topmost, Summable, AllDivisible}
 use Rattle.means.specs.RunningLaws.{in-states, past-states, length-sums, sums-at}
-use Rattle.means.specs.Solving.{Truncatable, levelOf, totalOf, RowHolds, Truncations, cellMean, meansOf, Solvable}
+use Rattle.means.specs.Solving.{Truncatable, levelOf, totalOf, weightRow, weightRows, Truncations, cellMean, meansOf, Solvable}
 
 module _ (xs : List ℕ) (ε : ℕ) (g : Truncatable xs ε) where
   -- a level is an index of its row
-  short : (k : ℕ) → k < length xs → levelOf xs ε k < LEVELS
+  pub short : (k : ℕ) → k < length xs → levelOf xs ε k < LEVELS
   short k h = level-max (getD xs k 0) ε (g .jumps-max k h) (g .tolerance-pos)
 
-  -- row k, lent as a part of j entries and filled up to its level, put back: the rows up to it hold their weights
-  pub rows-stored : (k j : ℕ) (w part : List ℕ) → k < length xs → k * LEVELS ≤ length w → LEVELS ≤ length (take j (drop (k * LEVELS) w)) → part ≡ over (levelOf xs ε k + 1) (weight (getD xs k 0)) (take j (drop (k * LEVELS) w)) → ((i : ℕ) → i < k → RowHolds xs ε w i) → (i : ℕ) → i < k + 1 → RowHolds xs ε (take (k * LEVELS) w ++ (part ++ drop j (drop (k * LEVELS) w))) i
-  rows-stored k j w part hk room whole filled before i b n h = elim (ℕ-discrete i k) [ yes e ↦ here e | no ne ↦ there (omega arith) ]
-    where
-      rest : List ℕ
-      rest = part ++ drop j (drop (k * LEVELS) w)
+  -- a row holds its weights
+  row-fits : (k : ℕ) → k < length xs → length (weightRow xs ε k) ≤ LEVELS
+  row-fits k h = omega (arith, length-firsts (levelOf xs ε k + 1) (weight (getD xs k 0)), short k h)
 
-      front : length (take (k * LEVELS) w) ≡ k * LEVELS
-      front = length-take-le (k * LEVELS) w room
+  row-holds : (w : List ℕ) → length xs * LEVELS ≤ length w → (k n : ℕ) → k < length xs → n ≤ levelOf xs ε k → getD (rowFrom (weightRows xs ε w) k) n 0 ≡ weight (getD xs k 0) n
+  row-holds w room k n h l =
+      getD-drop (k * LEVELS) (weightRows xs ε w) n 0
+      ∙ getD-stored (weightRow xs ε) LEVELS w (length xs) row-fits k n room h (omega (arith, length-firsts (levelOf xs ε k + 1) (weight (getD xs k 0))))
+      ∙ getD-firsts 0 (levelOf xs ε k + 1) (weight (getD xs k 0)) n (omega arith)
 
-      inside : n < length part
-      inside = omega (arith, h, short i (omega arith), whole, ap length filled, length-over (levelOf xs ε k + 1) (weight (getD xs k 0)) (take j (drop (k * LEVELS) w)) (omega (arith, short k hk, whole)))
-
-      here : i ≡ k → getD (rowFrom (take (k * LEVELS) w ++ rest) i) n 0 ≡ weight (getD xs i 0) n
-      here e =
-          ap (λ (m : ℕ). getD (drop (m * LEVELS) (take (k * LEVELS) w ++ rest)) n 0) e
-          ∙ ap (λ (l : List ℕ). getD l n 0) (drop-at (take (k * LEVELS) w) rest (k * LEVELS) front)
-          ∙ List·getD-append part (drop j (drop (k * LEVELS) w)) 0 n inside
-          ∙ ap (λ (l : List ℕ). getD l n 0) filled
-          ∙ getD-over 0 (levelOf xs ε k + 1) (weight (getD xs k 0)) (take j (drop (k * LEVELS) w)) n (omega (arith, h, ap (levelOf xs ε) e))
-          ∙ ap (λ (m : ℕ). weight (getD xs m 0) n) (sym e)
-
-      there : i < k → getD (rowFrom (take (k * LEVELS) w ++ rest) i) n 0 ≡ weight (getD xs i 0) n
-      there earlier =
-          let place : i * LEVELS + n < k * LEVELS = omega (arith, block-end i k LEVELS earlier, h, short i (omega arith)) in
-          getD-drop (i * LEVELS) (take (k * LEVELS) w ++ rest) n 0
-          ∙ List·getD-append (take (k * LEVELS) w) rest 0 (i * LEVELS + n) (omega (arith, place, front))
-          ∙ getD-take (k * LEVELS) w (i * LEVELS + n) 0 place
-          ∙ sym (getD-drop (i * LEVELS) w n 0)
-          ∙ before i earlier n h
-
-module _ (z : Sizes) (lists : Listing) (f xs : List ℕ) (ε : ℕ) (g : Solvable z lists f xs ε) (top : ℕ) (before levels totals w : List ℕ) (t : Truncations xs ε top before levels totals w) (held : length xs ≤ length before) where
+module _ (z : Sizes) (lists : Listing) (f xs : List ℕ) (ε : ℕ) (g : Solvable z lists f xs ε) (top : ℕ) (before levels totals₀ totals w₀ w : List ℕ) (t : Truncations xs ε top before levels totals₀ totals w₀ w) (held : length xs ≤ length before) (room : length xs * LEVELS ≤ length w₀) where
   abbrev ch : Chain
   ch = arrays z lists f
 
@@ -89,6 +69,9 @@ module _ (z : Sizes) (lists : Listing) (f xs : List ℕ) (ε : ℕ) (g : Solvabl
   level-short : (k : ℕ) → k < length xs → levelOf xs ε k < LEVELS
   level-short k h = short xs ε (g .truncatable) k h
 
+  weight-in : (k n : ℕ) → k < length xs → n ≤ levelOf xs ε k → getD (rowFrom w k) n 0 ≡ weight (getD xs k 0) n
+  weight-in k n h l = ap (λ (x : List ℕ). getD (rowFrom x k) n 0) (t .are-weights) ∙ row-holds xs ε (g .truncatable) w₀ room k n h l
+
   pub topmost : Topmost top used
   topmost =
       record {
@@ -96,20 +79,20 @@ module _ (z : Sizes) (lists : Listing) (f xs : List ℕ) (ε : ℕ) (g : Solvabl
         largest-max = omega (arith, t .is-largest, largest-le (length xs) 563 (levelOf xs ε) (λ k h. omega (arith, level-short k h)));
       }
 
-  pub summable : length xs * LEVELS ≤ length w → Summable z lists f used w
-  summable room =
+  pub summable : Summable z lists f used w
+  summable =
       record {
         ready = g .ready;
         fitting = g .fitting;
         highest-pos = g .highest-pos;
         highest-max = g .highest-max;
         count-max = omega (arith, count-used, g .truncatable .count-max);
-        rows = rw count-used room;
+        rows = rw count-used (omega (arith, room, ap length (t .are-weights), length-stored (weightRow xs ε) LEVELS w₀ (length xs)));
         level-max = λ k h. let b : k < length xs = omega (arith, h, count-used) in omega (arith, level-in k b, level-short k b);
         weight-max =
             λ k n h l.
             let b : k < length xs = omega (arith, h, count-used) in
-            rw (t .rows k b n (omega (arith, l, level-in k b))) (weight-max (getD xs k 0) n);
+            rw (weight-in k n b (omega (arith, l, level-in k b))) (weight-max (getD xs k 0) n);
       }
 
   -- the sums of all times, in the cells
@@ -142,7 +125,7 @@ module _ (z : Sizes) (lists : Listing) (f xs : List ℕ) (ε : ℕ) (g : Solvabl
     sum-is k e hk he =
         all-terms k e hk (omega (arith, he, g .fitting .states-in))
         ∙ sum-same (suc (levelOf xs ε k)) _ (λ j. term (weight (getD xs k 0) j) (U ch j (e % R + 1) (e / R)))
-        (λ j b. in-states D e (term (getD (rowFrom w k) j 0) (U ch j (e % R + 1) (e / R))) he ∙ ap (λ (v : ℕ). term v (U ch j (e % R + 1) (e / R))) (t .rows k hk j (omega arith)))
+        (λ j b. in-states D e (term (getD (rowFrom w k) j 0) (U ch j (e % R + 1) (e / R))) he ∙ ap (λ (v : ℕ). term v (U ch j (e % R + 1) (e / R))) (weight-in k j hk (omega arith)))
 
     no-sum : (k e : ℕ) → k < length xs → e < B → D ≤ e → getD sums (k * B + e) 0 ≡ 0
     unfolding partSum
@@ -163,7 +146,7 @@ module _ (z : Sizes) (lists : Listing) (f xs : List ℕ) (ε : ℕ) (g : Solvabl
       count-totals = length-take-le (length xs) totals many
 
       total-in : (k : ℕ) → k < length xs → getD (take (length xs) totals) k 0 ≡ totalOf xs ε k
-      total-in k h = getD-take (length xs) totals k 0 h ∙ t .are-totals k h
+      total-in k h = getD-take (length xs) totals k 0 h ∙ ap (λ (l : List ℕ). getD l k 0) (t .are-totals) ∙ getD-over 0 (length xs) (totalOf xs ε) totals₀ k h
 
       -- no sum is above S(N), and S(N) is above 0
       below-total : (k e : ℕ) → k < length xs → e < B → getD sums (k * B + e) 0 ≤ totalOf xs ε k

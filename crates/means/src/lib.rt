@@ -2,8 +2,7 @@
 // each X, and a block of cells that starts with its M × R moments. The vectors are computed once for all of them. The
 // cells of a block past the moments are 0.
 //
-// The sums A stand in the cells until they are divided. The weights of X number k are row k of what is lent, LEVELS
-// entries long.
+// The sums A stand in the cells until they are divided. The weights of X number k are row k, LEVELS entries long.
 ghost use mathlib.Core.Path.{_≡_};
 ghost use Prim.Native.Nat.{max, _+_, _*_, _%_, _^_, _<_, _≤_};
 ghost use lib.ListN.{length, getD};
@@ -14,7 +13,7 @@ ghost use Rattle.definitions.specs.Vectors.{ONE, rowMeans};
 ghost use Rattle.definitions.specs.Moment.{term, lastQuotient};
 ghost use Rattle.laws.specs.LevelLaws.{LEVELS};
 ghost use Rattle.means.specs.Running.{inTable, rowFrom, termAt, ofStates, partSums, Topmost, Addable, AllAddable, Summable, Divisible, AllDivisible};
-ghost use Rattle.means.specs.Solving.{Truncatable, Truncations, levelOf, meansOf, Solvable};
+ghost use Rattle.means.specs.Solving.{Truncatable, Truncations, levelOf, weightRows, meansOf, Solvable};
 use definitions::MOST_TIMES;
 use definitions::ONE;
 use definitions::Sizes;
@@ -193,7 +192,7 @@ fn truncate_each(
     weights: &mut [u64],
 ) -> u64
     requires { ⌜ Truncatable (now xs) tolerance × (length (now xs) ≤ length (now levels)) × (length (now xs) ≤ length (now totals)) × (length (now xs) * LEVELS ≤ length (now weights)) ⌝ }
-    ensures { λ r. ⌜ Truncations (now (xs .entry)) tolerance r (now (levels .entry)) (now (levels .exit)) (now (totals .exit)) (now (weights .exit)) ⌝ }
+    ensures { λ r. ⌜ Truncations (now (xs .entry)) tolerance r (now (levels .entry)) (now (levels .exit)) (now (totals .entry)) (now (totals .exit)) (now (weights .entry)) (now (weights .exit)) ⌝ }
 {
     let count = xs.len();
     let mut largest: u64 = 0;
@@ -210,7 +209,7 @@ fn truncate_each(
 // The levels of a list of X, and the moments of a chain in arrays for each: level k and block k of the cells are those of X
 // number k, with 0 in the cells of a block past the moments. The rows of weights are lent. Returns the number of row means that
 // it took.
-pub fn solve(
+fn solve_with(
     sizes: Sizes,
     targets: &[u8],
     rates: &[u32],
@@ -224,6 +223,7 @@ pub fn solve(
 ) -> u64
     requires { ⌜ Solvable sizes (listed (now targets) (now rates) (now counts)) (now rewards) (now xs) tolerance ⌝ }
     requires { ⌜ (length (now xs) * LEVELS ≤ length (now weights)) × (length (now xs) ≤ length (now levels)) × (length (now xs) * sizes .block ≤ length (now cells)) ⌝ }
+    ensures weights { λ t. ⌜ now (weights .exit) ≡ weightRows (now (xs .entry)) tolerance (now (weights .entry)) ⌝ }
     ensures levels { λ t. ⌜ now (levels .exit) ≡ over (length (now (xs .entry))) (levelOf (now (xs .entry)) tolerance) (now (levels .entry)) ⌝ }
     ensures cells { λ t. ⌜ now (cells .exit) ≡ blocks (sizes .block) (length (now (xs .entry))) (meansOf (arrays sizes (listed (now (targets .entry)) (now (rates .entry)) (now (counts .entry))) (now (rewards .entry))) (now (xs .entry)) tolerance (sizes .highest)) (now (cells .entry)) ⌝ }
     ensures taken { λ t. ⌜ t ≡ rowMeans (largest (length (now (xs .entry))) (levelOf (now (xs .entry)) tolerance)) (sizes .states) (sizes .highest) ⌝ }
@@ -244,4 +244,52 @@ pub fn solve(
     );
     divide_blocks(&totals[..count], sizes.block, cells);
     taken
+}
+
+// The same, with room enough for the weights: one row of them is less to clear than eight.
+pub fn solve(
+    sizes: Sizes,
+    targets: &[u8],
+    rates: &[u32],
+    counts: &[usize; 64],
+    rewards: &[u64; 64],
+    xs: &[u64],
+    tolerance: u64,
+    levels: &mut [u64],
+    cells: &mut [u64],
+) -> u64
+    requires { ⌜ Solvable sizes (listed (now targets) (now rates) (now counts)) (now rewards) (now xs) tolerance ⌝ }
+    requires { ⌜ (length (now xs) ≤ length (now levels)) × (length (now xs) * sizes .block ≤ length (now cells)) ⌝ }
+    ensures levels { λ t. ⌜ now (levels .exit) ≡ over (length (now (xs .entry))) (levelOf (now (xs .entry)) tolerance) (now (levels .entry)) ⌝ }
+    ensures cells { λ t. ⌜ now (cells .exit) ≡ blocks (sizes .block) (length (now (xs .entry))) (meansOf (arrays sizes (listed (now (targets .entry)) (now (rates .entry)) (now (counts .entry))) (now (rewards .entry))) (now (xs .entry)) tolerance (sizes .highest)) (now (cells .entry)) ⌝ }
+    ensures taken { λ t. ⌜ t ≡ rowMeans (largest (length (now (xs .entry))) (levelOf (now (xs .entry)) tolerance)) (sizes .states) (sizes .highest) ⌝ }
+{
+    if xs.len() <= 1 {
+        let mut weights = [0u64; poisson::LEVELS];
+        return solve_with(
+            sizes,
+            targets,
+            rates,
+            counts,
+            rewards,
+            xs,
+            tolerance,
+            &mut weights,
+            levels,
+            cells,
+        );
+    }
+    let mut weights = [0u64; MOST_TIMES * poisson::LEVELS];
+    solve_with(
+        sizes,
+        targets,
+        rates,
+        counts,
+        rewards,
+        xs,
+        tolerance,
+        &mut weights,
+        levels,
+        cells,
+    )
 }

@@ -6,14 +6,14 @@ use native.Mathlib.Omega.{arith}
 use lib.ListN.{length, getD}
 use lib.Seq.{sets}
 use borrow.Author.Needs.{needs}
-use Rattle.definitions.specs.Sums.{over}
+use Rattle.definitions.specs.Sums.{over, rowsStored}
 use Rattle.definitions.specs.File.{stateCount}
 use Rattle.definitions.specs.Chain.{Model, modelOf, rowSum, c, listed}
 use Rattle.definitions.specs.Arrows.{addedStates}
 use Rattle.laws.specs.ListLaws.{length-over, over-none, over-store}
 use Rattle.laws.specs.ChainLaws.{getD-padded, rowSum-le-rate}
-use Rattle.arrows.specs.Rows.{rowsStored}
-use Rattle.arrows.specs.RowLaws.{added-fits, entries-fit, none-stored, length-stored, stored-more, rows-listed, rows-shown}
+use Rattle.laws.specs.StoredLaws.{none-stored, length-stored, stored-more}
+use Rattle.arrows.specs.RowLaws.{rows-listed, rows-shown}
 use Rattle.arrows.proofs.list_rows.Statement.{statement}
 use Rattle.arrows.proofs.list_rows.Tie as tie
 
@@ -37,7 +37,7 @@ abbrev μ-loop : tie.MeasureT-loop
 loop-holds : tie.Need-loop-holds Inv-loop μ-loop
 loop-holds d =
     let m = modelOf (d .before .before .before .before .before .args .file .now) in
-    (omega arith, none-stored (addedStates m) (m .states) (added-fits m) _, none-stored (entries m) (m .states) (entries-fit m) _, sym (over-none (number m) _))
+    (omega arith, none-stored (addedStates m) (m .states) _, none-stored (entries m) (m .states) _, sym (over-none (number m) _))
 
 module _ (d : tie.In-loop Inv-loop μ-loop) where
   abbrev start : tie.Start Inv-loop μ-loop
@@ -60,10 +60,10 @@ module _ (d : tie.In-loop Inv-loop μ-loop) where
 
   -- the arrays are as long as they were
   targets-long : length (d .before .loop .targets) ≡ length (start .args .targets .now)
-  targets-long = ap length (d .before .loop .inv .1) ∙ length-stored (addedStates m) (m .states) (added-fits m) _ i
+  targets-long = ap length (d .before .loop .inv .1) ∙ length-stored (addedStates m) (m .states) _ i
 
   rates-long : length (d .before .loop .rates) ≡ length (start .args .rates .now)
-  rates-long = ap length (d .before .loop .inv .2) ∙ length-stored (entries m) (m .states) (entries-fit m) _ i
+  rates-long = ap length (d .before .loop .inv .2) ∙ length-stored (entries m) (m .states) _ i
 
   counts-long : length (d .before .loop .counts) ≡ length (start .args .counts .now)
   counts-long = ap length (d .before .loop .inv .3) ∙ length-over i (number m) _ (omega (arith, start .pre .1 .0 .2))
@@ -86,8 +86,8 @@ loop-again c =
     let row = c .before .before .before .before .list-row in
     let turn = d .before .loop in (
       omega arith,
-      row .ensures .1 .0 ∙ ap (λ (l : List ℕ). sets l (i d * m d .states) (addedStates (m d) (i d))) (turn .inv .1) ∙ stored-more (addedStates (m d)) (m d .states) (added-fits (m d)) _ (i d),
-      row .ensures .1 .1 ∙ ap (λ (l : List ℕ). sets l (i d * m d .states) (entries (m d) (i d))) (turn .inv .2) ∙ stored-more (entries (m d)) (m d .states) (entries-fit (m d)) _ (i d),
+      row .ensures .1 .0 ∙ ap (λ (l : List ℕ). sets l (i d * m d .states) (addedStates (m d) (i d))) (turn .inv .1) ∙ stored-more (addedStates (m d)) (m d .states) _ (i d),
+      row .ensures .1 .1 ∙ ap (λ (l : List ℕ). sets l (i d * m d .states) (entries (m d) (i d))) (turn .inv .2) ∙ stored-more (entries (m d)) (m d .states) _ (i d),
       over-store (i d) (number (m d)) _ (turn .counts) _ (omega (arith, start d .pre .1 .0 .2)) (turn .inv .3) (row .ensures .0),
     )
 
@@ -112,7 +112,7 @@ module _ (d : tie.After-loop Inv-loop μ-loop) where
   in-counts = d .before .loop .inv .3 ∙ ap (λ (n : ℕ). over n (number file) (begin .args .counts .now)) all
 
   same-targets : length (d .before .loop .targets) ≡ length (begin .args .targets .now)
-  same-targets = ap length in-targets ∙ length-stored (addedStates file) (file .states) (added-fits file) _ (file .states)
+  same-targets = ap length in-targets ∙ length-stored (addedStates file) (file .states) _ (file .states)
 
 returns : tie.Need-returns Inv-loop μ-loop
 returns d = (
@@ -145,6 +145,6 @@ list-rows-spec =
     (λ c. omega arith)
     loop-again
     same-targets
-    (λ d. ap length (in-rates d) ∙ length-stored (entries (file d)) (file d .states) (entries-fit (file d)) _ (file d .states))
+    (λ d. ap length (in-rates d) ∙ length-stored (entries (file d)) (file d .states) _ (file d .states))
     (λ d. ap length (in-counts d) ∙ length-over (file d .states) (number (file d)) _ (begin d .pre .1 .0 .2))
     returns)

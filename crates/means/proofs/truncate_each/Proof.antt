@@ -6,26 +6,28 @@ use mathlib.Core.Path.{_≡_, refl, sym, _∙_, ap}
 use mathlib.Core.List.{List}
 use lib.ListN.{length, getD, take, drop, length-set}
 use borrow.Rule.Slice.PartMut.{same-len-mid}
-use Rattle.definitions.specs.Sums.{largest as largestOf, over}
+use Rattle.definitions.specs.Sums.{largest as largestOf, over, rowsStored}
+use Rattle.definitions.specs.Weights.{weight}
 use Rattle.laws.specs.BlockLaws.{block-end, block-whole}
 use Rattle.laws.specs.LevelLaws.{LEVELS}
-use Rattle.laws.specs.ListLaws.{getD-over, over-none, over-store}
+use Rattle.laws.specs.ListLaws.{over-none, over-store}
+use Rattle.laws.specs.StoredLaws.{none-stored, row-back}
 use Rattle.laws.specs.SumLaws.{largest-zero, largest-suc}
-use Rattle.means.specs.SolvingLaws.{rows-stored}
-use Rattle.means.specs.Solving.{levelOf, totalOf, RowHolds}
+use Rattle.means.specs.SolvingLaws.{short}
+use Rattle.means.specs.Solving.{levelOf, totalOf, weightRow}
 use Rattle.means.proofs.truncate_each.Statement.{statement}
 use Rattle.means.proofs.truncate_each.Tie as tie
 
 abbrev Inv-loop : tie.InvT-loop
 Inv-loop xs tolerance levels₀ totals₀ weights₀ count largest₀ k₀ levels totals weights largest k =
-    (k ≤ count) × (largest ≡ largestOf k (levelOf xs tolerance)) × (levels ≡ over k (levelOf xs tolerance) levels₀) × (totals ≡ over k (totalOf xs tolerance) totals₀) × ((j : ℕ) → j < k → RowHolds xs tolerance weights j) × (length levels ≡ length levels₀) × (length totals ≡ length totals₀) × (length weights ≡ length weights₀)
+    (k ≤ count) × (largest ≡ largestOf k (levelOf xs tolerance)) × (levels ≡ over k (levelOf xs tolerance) levels₀) × (totals ≡ over k (totalOf xs tolerance) totals₀) × (weights ≡ rowsStored (weightRow xs tolerance) LEVELS k weights₀) × (length levels ≡ length levels₀) × (length totals ≡ length totals₀) × (length weights ≡ length weights₀)
 
 abbrev μ-loop : tie.MeasureT-loop
 μ-loop xs tolerance levels₀ totals₀ weights₀ count largest₀ k₀ levels totals weights largest k = count - k
 
 loop-holds : tie.Need-loop-holds Inv-loop μ-loop
 loop-holds c =
-    (omega arith, sym (largest-zero _), sym (over-none _ _), sym (over-none _ _), (λ j b. absurd (omega arith)), refl, refl, refl)
+    (omega arith, sym (largest-zero _), sym (over-none _ _), sym (over-none _ _), none-stored _ _ _, refl, refl, refl)
 
 -- a turn of the loop
 module _ (c : tie.In-loop Inv-loop μ-loop) where
@@ -54,12 +56,13 @@ loop-again c =
     let inv = b .before .loop .inv in
     let cut = c .before .before .before .truncate .ensures in
     let xs = begin .args .xs .now in
-    let ε = begin .args .tolerance in (
+    let ε = begin .args .tolerance in
+    let held : levelOf xs ε k < LEVELS = short xs ε (begin .pre .0) k (b .loop-test .taken) in (
       omega arith,
       omega (arith, c .larger .ensures, largest-suc k (levelOf xs ε), ap (λ (n : ℕ). largestOf n (levelOf xs ε)) (add-one k), cut .is-level),
       over-store k (levelOf xs ε) _ _ _ (omega (arith, begin .pre .1)) (inv .2) (omega (arith, cut .is-level)),
       over-store k (totalOf xs ε) _ _ _ (omega (arith, begin .pre .2)) (inv .3) (omega (arith, cut .is-sum)),
-      rows-stored xs ε (begin .pre .0) k (entries b) (b .before .loop .weights) _ (b .loop-test .taken) (omega (arith, row-room b)) (whole b) (cut .weights) (inv .4),
+      row-back (weightRow xs ε) LEVELS k (entries b) (levelOf xs ε k + 1) (weight (getD xs k 0)) _ (b .before .loop .weights) _ (inv .4) refl (omega (arith, row-room b, held)) (omega (arith, whole b, held)) (cut .weights),
       simp length-set (inv .5),
       simp length-set (inv .6),
       same-len-mid (k * LEVELS) (entries b) (b .before .loop .weights) (c .before .before .before .truncate .last .1 .1 .0) (c .before .before .before .truncate .kept .1 .1 .0) ∙ inv .7,
@@ -74,8 +77,8 @@ returns c =
     record {
       is-largest = rw done at (inv .1);
       are-levels = rw done at (inv .2);
-      are-totals = λ k b. ap (λ (l : List ℕ). getD l k 0) (inv .3) ∙ getD-over 0 (c .before .loop .k) (totalOf xs (begin .args .tolerance)) _ k (omega arith);
-      rows = λ k b. inv .4 k (omega arith);
+      are-totals = rw done at (inv .3);
+      are-weights = rw done at (inv .4);
     }
 
 pub truncate-each-spec : {M : Type 1} → statement M
