@@ -1,18 +1,19 @@
 // The moments of the accumulated reward: a file in, the level and the moments out, for its own time or for a list of times,
 // and where the file holds a starting distribution, the start figures. The row means taken on the way are counted.
+ghost use mathlib.Core.List.{map};
 ghost use mathlib.Core.Path.{_≡_};
 ghost use Prim.Native.Nat.{_*_, _^_, _<_, _≤_};
 ghost use lib.ListN.{length, getD};
-ghost use Rattle.definitions.specs.Sums.{over};
+ghost use Rattle.definitions.specs.Sums.{over, rowsStored};
 ghost use Rattle.definitions.specs.File.{stateCount};
-ghost use Rattle.definitions.specs.Chain.{modelOf};
+ghost use Rattle.definitions.specs.Chain.{modelOf, c};
 ghost use Rattle.definitions.specs.Rules.{accepted, saying};
 ghost use Rattle.definitions.specs.Moment.{runOf, outcome, answerOf, cellsAfter, LevelBounded};
 ghost use Rattle.definitions.specs.Promise.{Promised};
 ghost use Rattle.definitions.specs.Series.{meansOfAll, seriesOutcome, seriesAnswer, levelsAfter, blocksAfter, AreRuns, SeriesPromised, LevelsBounded};
+ghost use Rattle.definitions.specs.Arrows.{addedStates};
 ghost use Rattle.definitions.specs.Order.{NoneRises, NoBlockRises, NoneLowered, NoBlockLowered};
 ghost use Rattle.laws.specs.Acceptance.{AcceptedFile, AcceptedSeries};
-ghost use Rattle.laws.specs.LevelLaws.{LEVELS};
 ghost use Rattle.moments.specs.Filling.{started, Startable};
 use definitions::Judgement;
 use definitions::MOST_TIMES;
@@ -55,12 +56,13 @@ fn fill_with(
     times: &[u32],
     targets: &mut [u8],
     rates: &mut [u32],
-    weights: &mut [u64],
     levels: &mut [u64],
     cells: &mut [u64],
 ) -> u64
     requires { ⌜ AcceptedSeries (now file) (now times) (length (now levels)) (length (now cells)) ⌝ }
-    requires { ⌜ (stateCount (now file) * stateCount (now file) ≤ length (now targets)) × (stateCount (now file) * stateCount (now file) ≤ length (now rates)) × (length (now times) * LEVELS ≤ length (now weights)) ⌝ }
+    requires { ⌜ (stateCount (now file) * stateCount (now file) ≤ length (now targets)) × (stateCount (now file) * stateCount (now file) ≤ length (now rates)) ⌝ }
+    ensures targets { λ n. ⌜ now (targets .exit) ≡ rowsStored (addedStates (modelOf (now (file .entry)))) (stateCount (now (file .entry))) (stateCount (now (file .entry))) (now (targets .entry)) ⌝ }
+    ensures rates { λ n. ⌜ now (rates .exit) ≡ rowsStored (λ i. map (c (modelOf (now (file .entry))) i) (addedStates (modelOf (now (file .entry))) i)) (stateCount (now (file .entry))) (stateCount (now (file .entry))) (now (rates .entry)) ⌝ }
     ensures levels { λ n. ⌜ now (levels .exit) ≡ levelsAfter (accepted n) (now (file .entry)) (now (times .entry)) (now (levels .entry)) ⌝ }
     ensures cells { λ n. ⌜ now (cells .exit) ≡ blocksAfter (accepted n) (now (file .entry)) (now (times .entry)) (now (cells .entry)) ⌝ }
     ensures means { λ n. ⌜ n ≡ meansOfAll (now (file .entry)) (now (times .entry)) ⌝ }
@@ -82,7 +84,6 @@ fn fill_with(
         &rewards,
         &xs[..count],
         tolerance,
-        weights,
         levels,
         cells,
     );
@@ -91,14 +92,8 @@ fn fill_with(
 }
 
 // The same, with places enough for the rows.
-fn fill(
-    file: &[u8],
-    times: &[u32],
-    weights: &mut [u64],
-    levels: &mut [u64],
-    cells: &mut [u64],
-) -> u64
-    requires { ⌜ AcceptedSeries (now file) (now times) (length (now levels)) (length (now cells)) × (length (now times) * LEVELS ≤ length (now weights)) ⌝ }
+fn fill(file: &[u8], times: &[u32], levels: &mut [u64], cells: &mut [u64]) -> u64
+    requires { ⌜ AcceptedSeries (now file) (now times) (length (now levels)) (length (now cells)) ⌝ }
     ensures levels { λ n. ⌜ now (levels .exit) ≡ levelsAfter (accepted n) (now (file .entry)) (now (times .entry)) (now (levels .entry)) ⌝ }
     ensures cells { λ n. ⌜ now (cells .exit) ≡ blocksAfter (accepted n) (now (file .entry)) (now (times .entry)) (now (cells .entry)) ⌝ }
     ensures means { λ n. ⌜ n ≡ meansOfAll (now (file .entry)) (now (times .entry)) ⌝ }
@@ -107,27 +102,11 @@ fn fill(
     if states <= FEW_STATES {
         let mut targets = [0u8; FEW_STATES * FEW_STATES];
         let mut rates = [0u32; FEW_STATES * FEW_STATES];
-        return fill_with(
-            file,
-            times,
-            &mut targets,
-            &mut rates,
-            weights,
-            levels,
-            cells,
-        );
+        return fill_with(file, times, &mut targets, &mut rates, levels, cells);
     }
     let mut targets = [0u8; 64 * 64];
     let mut rates = [0u32; 64 * 64];
-    fill_with(
-        file,
-        times,
-        &mut targets,
-        &mut rates,
-        weights,
-        levels,
-        cells,
-    )
+    fill_with(file, times, &mut targets, &mut rates, levels, cells)
 }
 
 // The run and the block for the file's own time: a list of one.
@@ -136,9 +115,8 @@ fn fill_own(file: &[u8], cells: &mut [u64]) -> Run
     ensures { λ run. ⌜ (run ≡ runOf (modelOf (now (file .entry)))) × (now (cells .exit) ≡ cellsAfter (accepted run) (now (file .entry)) (now (cells .entry))) ⌝ }
 {
     let times = [reader::time(file)];
-    let mut weights = [0u64; poisson::LEVELS];
     let mut levels = [0u64];
-    let means = fill(file, &times, &mut weights, &mut levels, cells);
+    let means = fill(file, &times, &mut levels, cells);
     Run {
         level: levels[0],
         means,
@@ -167,17 +145,6 @@ pub fn calculate(file: &[u8], cells: &mut [u64]) -> Outcome
     }
 }
 
-// A level and a block for each time of an accepted list.
-fn fill_listed(file: &[u8], times: &[u32], levels: &mut [u64], cells: &mut [u64]) -> u64
-    requires { ⌜ AcceptedSeries (now file) (now times) (length (now levels)) (length (now cells)) ⌝ }
-    ensures levels { λ n. ⌜ now (levels .exit) ≡ levelsAfter (accepted n) (now (file .entry)) (now (times .entry)) (now (levels .entry)) ⌝ }
-    ensures cells { λ n. ⌜ now (cells .exit) ≡ blocksAfter (accepted n) (now (file .entry)) (now (times .entry)) (now (cells .entry)) ⌝ }
-    ensures means { λ n. ⌜ n ≡ meansOfAll (now (file .entry)) (now (times .entry)) ⌝ }
-{
-    let mut weights = [0u64; MOST_TIMES * poisson::LEVELS];
-    fill(file, times, &mut weights, levels, cells)
-}
-
 // The call for several times: the first row of its table of refusals that holds, with no level and no cell
 // touched; or the number of row means taken, N * M * R with the largest level N, with the level of time k in
 // level cell k and its figures in block k, in the order of `calculate`. Each is what `calculate` gives for the
@@ -197,7 +164,7 @@ pub fn series(file: &[u8], times: &[u32], levels: &mut [u64], cells: &mut [u64])
 {
     let judgement = refusals::judge_series(file, times, levels.len(), cells.len());
     match judgement {
-        Judgement::Refused(row) => Series::Refused(row),
-        Judgement::Accepted => Series::Solved(fill_listed(file, times, levels, cells)),
+        Judgement::Refused(k) => Series::Refused(k),
+        Judgement::Accepted => Series::Solved(fill(file, times, levels, cells)),
     }
 }

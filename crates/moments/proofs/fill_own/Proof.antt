@@ -16,19 +16,19 @@ use Rattle.moments.proofs.fill_own.Tie as tie
 
 fill-requires : tie.Need-fill-requires
 fill-requires c κs =
-    let start = c .before .before .before .before .before .before .before in
+    let start = c .before .before .before .before .before .before in
     let s = start .args .file .now in
     let cells = length (start .args .cells .now) in
-    (subst (λ (t : ℕ). AcceptedSeries s (t ∷ []) 1 cells) (sym (c .before .before .before .before .time .ensures)) (one-time s cells (start .pre)), omega arith)
+    subst (λ (t : ℕ). AcceptedSeries s (t ∷ []) 1 cells) (sym (c .before .before .before .time .ensures)) (one-time s cells (start .pre))
 
 returns : tie.Need-returns
 returns c =
-    let start = c .before .before .before .before .before .before .before .before .before .before .before .before in
+    let start = c .before .before .before .before .before .before .before .before .before .before in
     let s = start .args .file .now in
     let cells = start .args .cells .now in
-    let time = c .before .before .before .before .before .before .before .before .before .time .ensures in
-    let filled = c .before .before .before .before .fill .ensures in
-    let n = c .before .before .before .before .fill .result in
+    let time = c .before .before .before .before .before .before .before .time .ensures in
+    let filled = c .before .before .before .fill .ensures in
+    let n = c .before .before .before .fill .result in
     let level = ap (λ (l : List ℕ). getD l 0 0) (filled .0) ∙ ap (λ (t : ℕ). getD (levelsAfter (accepted n) s (t ∷ []) (0 ∷ [])) 0 0) time ∙ own-level s n (0 ∷ []) in
     let means = filled .1 .1 ∙ ap (λ (t : ℕ). meansOfAll s (t ∷ [])) time ∙ own-means s in
     let run = ap₂ {C = Run} (λ (N k : ℕ). record { level = N; means = k }) level means in
@@ -39,7 +39,6 @@ fill-own-spec =
     tie.close
     (tie.spec
     (λ c κs. search needs)
-    (λ c. search needs)
     (λ c. search needs)
     (λ c. search needs)
     fill-requires

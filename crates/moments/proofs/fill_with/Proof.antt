@@ -20,7 +20,7 @@ use Rattle.moments.proofs.fill_with.Tie as tie
 -- E among the sizes that were read
 module _ (d : tie.After-sizes-of) where
   abbrev start : tie.Start
-  start = d .before .before .before .before .before .before .before .before .before .before
+  start = d .before .before .before .before .before .before .before .before .before
 
   rate-read : d .sizes-of .result .rate ≡ uniformRate (modelOf (start .args .file .now))
   rate-read = ap (λ (z : Sizes). z .rate) (d .sizes-of .ensures)
@@ -71,41 +71,47 @@ module _ (d : tie.After-write-jumps) where
 
 solve-requires : tie.Need-solve-requires
 solve-requires c κs =
-    let d = c .before .before .before .before .before .before .before .before .before .before in
+    let d = c .before .before .before .before .before .before .before .before .before in
     let begin = start (sized d) in
-    let r = read d _ (c .before .before .before .before .before .before .before .before .tolerance .ensures) in
-    (solvable (begin .args .file .now) (times d) _ _ (begin .pre .0) _ _ _ _ _ r, (rw (r .count) (begin .pre .1 .2), rw (r .count) (begin .pre .0 .level-room), block-room (begin .args .file .now) (times d) _ _ (begin .pre .0) _ _ _ _ _ r))
+    let r = read d _ (c .before .before .before .before .before .before .before .tolerance .ensures) in
+    (solvable (begin .args .file .now) (times d) _ _ (begin .pre .0) _ _ _ _ _ r, (rw (r .count) (begin .pre .0 .level-room), block-room (begin .args .file .now) (times d) _ _ (begin .pre .0) _ _ _ _ _ r))
 
 -- past the solution
 module _ (S : tie.After-solve) where
   abbrev d : tie.After-write-jumps
-  d = S .before .before .before .before .before .before .before .before .before .before .before
+  d = S .before .before .before .before .before .before .before .before .before .before
 
   abbrev begin : tie.Start
   begin = start (sized d)
 
   abbrev ε : ℕ
-  ε = S .before .before .before .before .before .before .before .before .before .tolerance .result
+  ε = S .before .before .before .before .before .before .before .before .tolerance .result
 
   r : ReadAs (modelOf (begin .args .file .now)) (times d) (sized d .sizes-of .result) (rows d) (d .before .before .rewards-of .result) (xs d) ε
-  r = read d ε (S .before .before .before .before .before .before .before .before .before .tolerance .ensures)
+  r = read d ε (S .before .before .before .before .before .before .before .before .tolerance .ensures)
 
 -- the moments of all times stand in the cells
 put-starts-requires : tie.Need-put-starts-requires
 put-starts-requires c κs =
-    let S = c .before .before .before .before .before .before .before in
+    let S = c .before .before .before .before .before in
     startable (begin S .args .file .now) (times (d S)) _ _ (begin S .pre .0) _ _ _ _ _ (r S) (begin S .args .cells .now) (begin S .pre .0 .block-room) _ (S .solve .ensures .1 .0)
 
 returns : tie.Need-returns
 returns c =
-    let S = c .before .before .before .before .before .before .before .before .before .before in
-    let same : sized (d S) .sizes-of .result .block ≡ blockSize (begin S .args .file .now) = ap (λ (z : Sizes). z .block) (sized (d S) .sizes-of .ensures) in (
-      S .solve .ensures .0 ∙ levels-are (begin S .args .file .now) (times (d S)) _ _ (begin S .pre .0) _ _ _ _ _ (r S) _ _,
+    let S = c .before .before .before .before .before .before .before .before in
+    let same : sized (d S) .sizes-of .result .block ≡ blockSize (begin S .args .file .now) = ap (λ (z : Sizes). z .block) (sized (d S) .sizes-of .ensures) in
+    let listed-rows = d S .before .before .before .before .before .before .before .before .list-rows .ensures in
+    let cells =
+    c .before .before .put-starts .ensures
+    ∙ ap (λ (b : ℕ). started (modelOf (begin S .args .file .now)) b (length (times (d S))) (S .solve .last .1 .1 .1 .1 .1 .1 .1 .1 .0)) same
+    ∙ blocks-are (begin S .args .file .now) (times (d S)) _ _ (begin S .pre .0) _ _ _ _ _ (r S) (begin S .args .cells .now) (begin S .pre .0 .block-room) _ (S .solve .ensures .1 .0) _ in (
+      listed-rows .0,
       (
-        c .before .before .put-starts .ensures
-            ∙ ap (λ (b : ℕ). started (modelOf (begin S .args .file .now)) b (length (times (d S))) (S .solve .last .1 .1 .1 .1 .1 .1 .1 .1 .1 .0)) same
-            ∙ blocks-are (begin S .args .file .now) (times (d S)) _ _ (begin S .pre .0) _ _ _ _ _ (r S) (begin S .args .cells .now) (begin S .pre .0 .block-room) _ (S .solve .ensures .1 .0) _,
-        S .solve .ensures .1 .1 ∙ counted (begin S .args .file .now) (times (d S)) _ _ (begin S .pre .0) _ _ _ _ _ (r S),
+        listed-rows .1 .0,
+        (
+          S .solve .ensures .0 ∙ levels-are (begin S .args .file .now) (times (d S)) _ _ (begin S .pre .0) _ _ _ _ _ (r S) _ _,
+          (cells, S .solve .ensures .1 .1 ∙ counted (begin S .args .file .now) (times (d S)) _ _ (begin S .pre .0) _ _ _ _ _ (r S)),
+        ),
       ),
     )
 
@@ -114,7 +120,7 @@ fill-with-spec =
     tie.close
     (tie.spec
     (λ c κs. search needs)
-    (λ c κs. let given = c .before .before .before .before .before .before .before .before .before .pre .0 in ((given .framed, given .limits 0 (omega (arith, given .count-min)) .highest-max), c .before .row-sums .ensures))
+    (λ c κs. let given = c .before .before .before .before .before .before .before .before .pre .0 in ((given .framed, given .limits 0 (omega (arith, given .count-min)) .highest-max), c .before .row-sums .ensures))
     (λ c. search needs)
     list-rows-requires
     (λ c κs. search needs)
@@ -125,7 +131,6 @@ fill-with-spec =
     (λ c. sym (length-take-le _ _ (xs-held (c .before .before .before .before .before .before .before))))
     solve-requires
     put-starts-requires
-    (λ c. search needs)
     (λ c. search needs)
     (λ c. search needs)
     (λ c. search needs)

@@ -13,7 +13,7 @@ use borrow.Author.Needs.{needs}
 use Rattle.moments.proofs.series.Statement.{statement}
 use Rattle.moments.proofs.series.Tie as tie
 
-fill-requires : tie.Need-fill-listed-requires
+fill-requires : tie.Need-fill-requires
 fill-requires c κs = accepted-series _ _ _ _ (sym (c .before .before .before .before .judge-series .ensures) ∙ ap verdict (c .before .before .enum-told .given .1))
 
 returns : tie.Need-returns
@@ -28,8 +28,8 @@ returns-2 c =
     let levels = start .args .levels .now in
     let cells = start .args .cells .now in
     let passed : seriesJudgement s times (length levels) (length cells) ≡ accepted tt = sym (c .before .before .before .before .before .before .before .before .before .judge-series .ensures) ∙ ap verdict (c .before .before .before .before .before .before .before .enum-told .given .1) in
-    let filled = c .before .before .before .before .fill-listed .ensures in
-    let n = c .before .before .before .before .fill-listed .result in
+    let filled = c .before .before .before .before .fill .ensures in
+    let n = c .before .before .before .before .fill .result in
     let answer = ap accepted (filled .1 .1) ∙ sym (series-accepted s times (length levels) (length cells) passed) in
     let order = subst (NoBlockRises (accepted n) s times) (sym (filled .1 .0)) (no-block-rises s times cells n) in
     (answer, (filled .0, (filled .1 .0, (rw (filled .0, filled .1 .0) (series-promised s times levels cells n passed), (rw (filled .0, filled .1 .0) (series-runs s times levels cells n passed), (rw (filled .0) (series-bounded s times levels (length cells) n passed), (order, rw (filled .0, filled .1 .0) (no-block-lowered s times levels cells n (sym answer)))))))))
