@@ -3,20 +3,27 @@ use mathlib.Core.Bool.{Bool, true, false}
 use Prim.Native.Nat.{ℕ, _+_, _*_, _/_, _%_, _^_, _<_, _≤_}
 use lib.Dec.{leb, eqb}
 use Rattle.definitions.specs.Division.{Divides}
+use Rattle.definitions.specs.declared.Division.{Division}
+use Rattle.definitions.specs.Maybe.{Maybe, none, given}
 use Rattle.muldiv.specs.declared.Divided.{Divided}
-use Rattle.muldiv.specs.declared.Divided.the-variants.{Into, Nothing}
+use Rattle.muldiv.specs.declared.Divided.the-variants as ended
 
--- Nothing where the test holds
-abbrev pub unless : Bool → Divided → Divided
-unless true d = Nothing
+-- document 01's answer for each case of the enum: quotient and remainder, or "none"
+abbrev pub dividedAnswer : Divided → Maybe Division
+dividedAnswer (ended.Into d) = given d
+dividedAnswer ended.Nothing = none
+
+-- none where the test holds
+abbrev pub unless : Bool → Maybe Division → Maybe Division
+unless true d = none
 unless false d = d
 
 -- the quotient q with the remainder r, unless 64 bits do not hold q
-unfoldable pub fitted : ℕ → ℕ → Divided
-fitted q r = unless (leb (2 ^ 64) q) (Into (record { quotient = q; remainder = r }))
+unfoldable pub fitted : ℕ → ℕ → Maybe Division
+fitted q r = unless (leb (2 ^ 64) q) (given (record { quotient = q; remainder = r }))
 
--- a × b by c. Nothing where c is 0, where a, b or c is 2^62 or more, or where the quotient is 2^64 or more.
-unfoldable pub dividedOf : ℕ → ℕ → ℕ → Divided
+-- a × b by c. None where c is 0, where a, b or c is 2^62 or more, or where the quotient is 2^64 or more.
+unfoldable pub dividedOf : ℕ → ℕ → ℕ → Maybe Division
 dividedOf a b c =
     unless (eqb c 0) (unless (leb (2 ^ 62) a) (unless (leb (2 ^ 62) b) (unless (leb (2 ^ 62) c) (fitted (a * b / c) (a * b % c)))))
 

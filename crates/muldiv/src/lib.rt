@@ -7,7 +7,7 @@
 ghost use mathlib.Core.Path.{_≡_};
 ghost use Prim.Native.Nat.{_+_, _*_, _/_, _%_, _^_, _<_, _≤_};
 ghost use Rattle.definitions.specs.Division.{division};
-ghost use Rattle.muldiv.specs.MulDiv.{dividedOf, fitted, Scalable, BitCount};
+ghost use Rattle.muldiv.specs.MulDiv.{dividedAnswer, dividedOf, fitted, Scalable, BitCount};
 use definitions::Division;
 
 // Each of a, b and c stays below this.
@@ -28,7 +28,7 @@ pub enum Divided {
 // a * b by c. Nothing where c is 0, where a, b or c is 2^62 or more, or where the quotient is 2^64
 // or more, and nowhere else. There is one turn for each bit of b: hand over the smaller factor as b.
 pub fn mul_div(a: u64, b: u64, c: u64) -> Divided
-    ensures { λ r. ⌜ r ≡ dividedOf a b c ⌝ }
+    ensures { λ r. ⌜ dividedAnswer r ≡ dividedOf a b c ⌝ }
 {
     if c == 0 {
         return Divided::Nothing;
@@ -90,7 +90,7 @@ pub fn over_trillion(a: u64, b: u64) -> Division
 
 // low with high * b added to its quotient; Nothing where that quotient is 2^64 or more.
 fn total(high: u64, b: u64, low: Division) -> Divided
-    ensures { λ r. ⌜ r ≡ fitted (high * b + low .quotient) (low .remainder) ⌝ }
+    ensures { λ r. ⌜ dividedAnswer r ≡ fitted (high * b + low .quotient) (low .remainder) ⌝ }
 {
     if high == 0 {
         return Divided::Into(low);

@@ -96,7 +96,7 @@ mix-requires : tie.Need-mix-requires
 unfolding rowMean rewardShare
 mix-requires c κs =
     let d = c .before .before .before .before .before in
-    mix-ready (step-ready d) (start d .args .i) (omega arith) _ _ (ap quotient (c .before .before .before .row-mean .ensures (start d .args .rewards .now))) (ap quotient (c .reward-share .ensures))
+    mix-ready (step-ready d) (start d .args .i) (omega arith) _ _ (ap quotient (c .before .before .before .row-mean .ensures .0 (start d .args .rewards .now))) (ap quotient (c .reward-share .ensures))
 
 -- V, W and U, and what each leaves
 module _ (c : tie.After-mix) where
