@@ -1,5 +1,6 @@
 -- Document 01, with requests S-1 (the last rounding), S-3 (several times), S-4 (remainders), S-5 (starting distributions), S-6 (practice
--- files), S-7 (sums over the arrows) and S-8 (the count of row means) of document 02, as definitions: a module for each of its sections, in its order.
+-- files), S-7 (sums over the arrows), S-8 (the count of row means) and S-9 (the order of the figures) of document 02, as definitions: a module for each of its
+-- sections, in its order. Theorems has what the papers say beside the calls.
 -- Numeral is of no paper: it says how the program that deals practice files reads its arguments.
 -- The paper counts states from 1. Here states and cells are counted from 0: the paper's state i is i − 1 here. Moments r are counted from 1 in both.
 pub mod Maybe
@@ -26,6 +27,7 @@ pub mod Practice
 pub mod Arrows
 pub mod Numeral
 pub mod Sheet
+pub mod Theorems
 pub mod HandChecked
 pub mod StartChecked
 pub mod OrderChecked

@@ -24,6 +24,11 @@ weighted X u N = sum (suc N) (λ n. term (weight X n) (u n))
 unfoldable pub nearest : ℕ → ℕ → ℕ
 nearest a c = (2 * a + c) / (2 * c)
 
+-- n is at most one half away from a over c, either way: twice the distance of n × c from a is at most c
+pub record WithinHalf (a c n : ℕ) : Type 0 where
+  pub above : 2 * (n * c) ≤ 2 * a + c
+  pub below : 2 * a ≤ 2 * (n * c) + c
+
 -- the last quotient: A × 10^12 over S(N), to the nearest tick
 unfoldable pub lastQuotient : ℕ → ℕ → ℕ
 lastQuotient a s = nearest (a * ONE) s

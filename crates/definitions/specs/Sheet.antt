@@ -1,13 +1,20 @@
--- "The printed sheet": its bytes.
-use Prim.Native.Nat.{ℕ, zero, suc, _+_, _/_, _%_, _^_}
+-- "The printed sheet": its bytes, and what a printed figure denotes.
+use Prim.Native.Nat.{ℕ, zero, suc, _+_, _/_, _%_, _^_, _<_}
+use native.Mathlib.Nat.{one-le-pow}
+use native.Mathlib.Omega.{arith}
 use mathlib.Core.List.{List, [], _∷_, _++_}
-use lib.ListN.{take, getD, replicate}
-use lib.Dec.{ltb}
+use mathlib.Core.Bool.{true}
+use mathlib.Core.Path.{_≡_}
+use lib.ListN.{length, take, getD, replicate}
+use lib.Dec.{eqb, ltb}
 use Rattle.definitions.specs.declared.Run.{Run}
 use Rattle.definitions.specs.Sums.{pick}
 use Rattle.definitions.specs.File.{stateCount, highestMoment}
 use Rattle.definitions.specs.Rules.{Answer, accepted, refused, blockSize}
 use Rattle.definitions.specs.Moment.{outcome, cellsAfter}
+use Rattle.definitions.specs.Fraction.{Fraction, Same, ratio, whole, plus}
+use Rattle.definitions.specs.Promise.{ticks}
+use Rattle.definitions.specs.Numeral.{allDigits, valueOf}
 
 -- the byte of the decimal digit of x that counts 10^p
 unfoldable pub digit : ℕ → ℕ → ℕ
@@ -30,6 +37,28 @@ decimal x = digits x (places x 19)
 -- a figure of x ticks: a digit, a point and twelve digits
 unfoldable pub figure : ℕ → List ℕ
 figure x = digit x 12 ∷ 46 ∷ digits x 12
+
+-- what stands before the first point of a text, and after it
+unfoldable pub beforePoint : List ℕ → List ℕ
+beforePoint [] = []
+beforePoint (b ∷ later) = pick (eqb b 46) [] (b ∷ beforePoint later)
+
+unfoldable pub afterPoint : List ℕ → List ℕ
+afterPoint [] = []
+afterPoint (b ∷ later) = pick (eqb b 46) later (afterPoint later)
+
+pub ten-pos : (p : ℕ) → 0 < 10 ^ p
+ten-pos p = one-le-pow p 10 (omega arith)
+
+-- what a text says as a decimal: the number before its point, and the digits after it over 10 to their number
+unfoldable pub decimalOf : List ℕ → Fraction
+decimalOf text = plus (whole (valueOf (beforePoint text))) (ratio (valueOf (afterPoint text)) (10 ^ length (afterPoint text)) (ten-pos (length (afterPoint text))))
+
+-- a text denotes x: but for the point it is digits, and as a decimal it is x
+pub record Denotes (text : List ℕ) (x : Fraction) : Type 0 where
+  pub number : allDigits (beforePoint text) ≡ true
+  pub decimals : allDigits (afterPoint text) ≡ true
+  pub value : Same (decimalOf text) x
 
 -- how the lines of row i begin: with the number of the state, or past the M states with "start"
 unfoldable pub label : ℕ → ℕ → List ℕ
@@ -71,6 +100,15 @@ readLimit = 16654
 -- what the calculator prints of the bytes that it read
 unfoldable pub sheet : List ℕ → List ℕ
 sheet s = sheetOf (outcome s lentCells) (stateCount s) (highestMoment s) (blockSize s) (cellsAfter (outcome s lentCells) s (replicate lentCells 0))
+
+-- of an answer: each figure that is printed denotes the number in its cell, in ticks
+abbrev pub FiguresDenote : Answer Run → List ℕ → List ℕ → Type 0
+FiguresDenote (accepted run) s cells = (k : ℕ) → k < blockSize s → Denotes (figure (getD cells k 0)) (ticks (getD cells k 0))
+FiguresDenote (refused k) s cells = Unit {0}
+
+-- of the sheet of the file s
+abbrev pub SheetDenotes : List ℕ → Type 0
+SheetDenotes s = FiguresDenote (outcome s lentCells) s (cellsAfter (outcome s lentCells) s (replicate lentCells 0))
 
 -- what the program prints for the bytes on standard input
 unfoldable pub printedSheet : List ℕ → List ℕ

@@ -60,17 +60,6 @@ sum-over-list M (x ∷ l) f total once within rest =
           | no ne ↦ rw (ne-eqb j x ne) (rest j b (ap (λ (t : Bool). t || isIn j l) (ne-eqb j x ne) ∙ h))
         ]
 
--- so two lists of the same states, each without repetition, add up to the same
-pub any-order : (M : ℕ) (l k : List ℕ) (f : ℕ → ℕ) (total : ℕ) → distinct l ≡ true → distinct k ≡ true → ((j : ℕ) → isIn j l ≡ isIn j k) → ((j : ℕ) → isIn j l ≡ true → j < M) → addUp total l f ≡ addUp total k f
-any-order M l k f total once again same within =
-    add-up-same l f listed-only total (λ j h. rw h refl)
-    ∙ sum-over-list M l listed-only total once within (λ j b h. rw h refl)
-    ∙ sym (sum-over-list M k listed-only total again (λ j h. within j (same j ∙ h)) (λ j b h. rw (same j ∙ h) refl))
-    ∙ sym (add-up-same k f listed-only total (λ j h. rw (same j ∙ h) refl))
-  where
-    listed-only : ℕ → ℕ
-    listed-only j = pick (isIn j l) (f j) 0
-
 -- the sum, place by place of the list
 pub add-up-places : (l : List ℕ) (f : ℕ → ℕ) (total : ℕ) → addUp total l f ≡ total + sum (length l) (λ k. f (getD l k 0))
 unfolding addUp

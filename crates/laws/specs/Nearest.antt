@@ -1,23 +1,17 @@
 -- Rounding to the nearest, a half going up, argued once for any divisor. `a / 0` is 0, so a law that needs a divisor says `0 < c`.
 -- Assumes nothing.
 use Prim.Native.Nat.{ℕ, _+_, _*_, _-_, _/_, _%_, _<_, _≤_}
-use native.Mathlib.Decide.{decLt, decLe}
+use native.Mathlib.Decide.{decLe}
 use native.Mathlib.Omega.{arith}
-use mathlib.Core.Logic.{_⊎_, inl, inr}
 use mathlib.Core.Path.{_≡_}
 use lib.Dec.{leb}
 use borrow.Author.Tests.{le-leb, lt-leb}
 use Rattle.definitions.specs.Sums.{pick}
 use Rattle.definitions.specs.Division.{Rounds}
-use Rattle.definitions.specs.Moment.{nearest}
-use Rattle.laws.specs.Rounding.{quotient-low, quotient-high, quotient-at-least, quotient-mono, quotient-below, quotient-unique, quotient-remainder, remainder-below, divides}
+use Rattle.definitions.specs.Moment.{nearest, WithinHalf}
+use Rattle.laws.specs.Rounding.{quotient-low, quotient-high, quotient-mono, quotient-below, quotient-unique, quotient-remainder, remainder-below, divides}
 
--- n is at most one half away from a / c, either way: twice the distance of n × c from a is at most c
-pub record WithinHalf (a c n : ℕ) : Type 0 where
-  pub above : 2 * (n * c) ≤ 2 * a + c
-  pub below : 2 * a ≤ 2 * (n * c) + c
-
--- the nearest number is
+-- the nearest number is at most one half away
 pub nearest-within : (a c : ℕ) → 0 < c → WithinHalf a c (nearest a c)
 unfolding nearest
 nearest-within a c pos =
@@ -30,14 +24,6 @@ nearest-within a c pos =
 pub nearest-is : (a c n : ℕ) → 2 * (n * c) ≤ 2 * a + c → 2 * a < 2 * (n * c) + c → nearest a c ≡ n
 unfolding nearest
 nearest-is a c n above below = quotient-unique (2 * a + c) (2 * c) n (2 * a + c - 2 * (n * c)) (omega arith) (omega arith)
-
--- so no other number is at most one half away, but for a half, where the number below it is
-pub nearest-only : (a c n : ℕ) → WithinHalf a c n → (nearest a c ≡ n) ⊎ (2 * a ≡ 2 * (n * c) + c)
-nearest-only a c n h = from (decLt (2 * a) (2 * (n * c) + c))
-  where
-    from : Dec (2 * a < 2 * (n * c) + c) → (nearest a c ≡ n) ⊎ (2 * a ≡ 2 * (n * c) + c)
-    from (yes less) = inl (nearest-is a c n (h .above) less)
-    from (no l) = inr (omega (arith, l, h .below))
 
 -- a half goes up
 pub half-up : (a c n : ℕ) → 0 < c → 2 * a ≡ 2 * (n * c) + c → nearest a c ≡ n + 1
@@ -52,15 +38,6 @@ nearest-at-most a k c pos h = omega (arith, quotient-below (2 * a + c) (k + 1) (
 pub nearest-mono : (a b c : ℕ) → a ≤ b → nearest a c ≤ nearest b c
 unfolding nearest
 nearest-mono a b c h = quotient-mono (2 * a + c) (2 * b + c) (2 * c) (omega arith)
-
--- at least the quotient rounded down
-pub nearest-at-least-down : (a c : ℕ) → 0 < c → a / c ≤ nearest a c
-unfolding nearest
-nearest-at-least-down a c pos = quotient-at-least (2 * a + c) (a / c) (2 * c) (omega arith) (omega (arith, quotient-low a c))
-
--- and at most one more
-pub nearest-at-most-one-more : (a c : ℕ) → 0 < c → nearest a c ≤ a / c + 1
-nearest-at-most-one-more a c pos = nearest-at-most a (a / c + 1) c pos (omega (arith, quotient-high a c pos))
 
 -- by the remainder: one more than the quotient where twice the remainder reaches the divisor, and the quotient where it does not
 pub nearest-up : (a c : ℕ) → 0 < c → c ≤ 2 * (a % c) → nearest a c ≡ a / c + 1
