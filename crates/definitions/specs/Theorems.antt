@@ -2,7 +2,7 @@
 use Prim.Native.Nat.{ℕ, suc, _+_, _*_, _-_, _/_, _≤_, _<_}
 use mathlib.Core.List.{List}
 use mathlib.Core.Path.{_≡_}
-use lib.ListN.{take}
+use lib.ListN.{getD, take}
 use Rattle.definitions.specs.declared.Run.{Run}
 use Rattle.definitions.specs.Sums.{sum}
 use Rattle.definitions.specs.Chain.{Model, modelOf, Chain, uniformRate, c, maxReward}
@@ -51,8 +51,8 @@ pub record Theorems : Type 0 where
   -- document 02, S-1: "rounded to the nearest tick, a half going up"
   pub nearest-within : (a d : ℕ) → 0 < d → WithinHalf a d (nearest a d)
   pub half-up : (a d n : ℕ) → 0 < d → 2 * a ≡ 2 * (n * d) + d → nearest a d ≡ n + 1
-  -- S-5: "version 1 to version 2 with all weight on state 1": the start figures of the moved file are the moments of that state
-  pub start-moved : (s : List ℕ) → fileJudgement 1 1 s ≡ accepted tt → (N r : ℕ) → startFigure (modelOf (movedTo2 s)) N r ≡ moment (modelOf s) N r 0
+  -- S-5: "version 1 to version 2 with all weight on state 1": the start figures of a moved file, a list of bytes, are the moments of that state
+  pub start-moved : (s : List ℕ) → ((k : ℕ) → getD s k 0 < 256) → fileJudgement 1 1 s ≡ accepted tt → (N r : ℕ) → startFigure (modelOf (movedTo2 s)) N r ≡ moment (modelOf s) N r 0
   -- S-6: "for every seed number": every M and R within their limits deal the file, where the bytes lent are enough
   pub every-seed : (M R seed lent : ℕ) → 1 ≤ M → M ≤ 64 → 1 ≤ R → R ≤ 8 → 4 * (M * M) + 13 ≤ lent → practice M R seed lent ≡ accepted (practiceFile M R seed)
   -- S-7: "for each row, every other state with a rate above 0 once, highest first, and no more"

@@ -39,20 +39,13 @@ below P b Z x d pos l h =
     record { cross = le-of-mul-le-mul-right {k = Z} (omega (arith, mul-le-mul-right (x .den) h, mul-le-mul-right (d .den) (l .high))) pos }
 
 -- the sums up to N that the bounds are made of
-module _ (X N L : ℕ) (U : ℕ → ℕ) (X-pos : 0 < X) (mode-in : mode X ≤ N) (past : N ≤ L) (U-max : (n : ℕ) → n ≤ N → U n ≤ ONE) where
+module _ (X N L : ℕ) (X-pos : 0 < X) (mode-in : mode X ≤ N) (past : N ≤ L) where
   abbrev zm : ℕ
   zm = z X L (mode X)
 
-  -- the exact weights, and those times U
+  -- the exact weights, and the weights' errors
   abbrev ZN : ℕ
   ZN = sum (suc N) (z X L)
-
-  abbrev zU : ℕ
-  zU = sum (suc N) (λ n. z X L n * U n)
-
-  -- the weights times U, and the weights' errors
-  abbrev wU : ℕ
-  wU = sum (suc N) (λ n. weight X n * U n)
 
   abbrev errors : ℕ
   errors = sum (suc N) (λ n. distance n (mode X))
@@ -72,32 +65,41 @@ module _ (X N L : ℕ) (U : ℕ → ℕ) (X-pos : 0 < X) (mode-in : mode X ≤ N
       let each = sum-mono (suc N) (λ n. z X L n * GREATEST) (λ n. (weight X n + distance n (mode X)) * zm) (λ n l. omega (arith, at n l .high)) in
       omega (arith, each, sum-times (suc N) zm (λ n. weight X n + distance n (mode X)), sum-times (suc N) GREATEST (z X L), ap (λ (v : ℕ). v * zm) (sum-plus (suc N) (weight X) (λ n. distance n (mode X))))
 
-  products-low : wU * zm ≤ GREATEST * zU
-  products-low =
-      let each = sum-mono (suc N) (λ n. weight X n * U n * zm) (λ n. z X L n * U n * GREATEST) (λ n l. omega (arith, mul-le-mul-right (U n) (at n l .low))) in
-      omega (arith, each, sum-times (suc N) zm (λ n. weight X n * U n), sum-times (suc N) GREATEST (λ n. z X L n * U n))
-
-  products-high : GREATEST * zU ≤ (wU + errors * ONE) * zm
-  products-high =
-      let each = sum-mono (suc N) (λ n. z X L n * U n * GREATEST) (λ n. (weight X n * U n + distance n (mode X) * ONE) * zm) (λ n l. omega (arith, mul-le-mul-right (U n) (at n l .high), mul-le-mul-left (distance n (mode X) * zm) (U-max n (omega arith)))) in
-      omega (arith, each, sum-times (suc N) zm (λ n. weight X n * U n + distance n (mode X) * ONE), sum-times (suc N) GREATEST (λ n. z X L n * U n), ap (λ (v : ℕ). v * zm) (sum-plus (suc N) (λ n. weight X n * U n) (λ n. distance n (mode X) * ONE)), ap (λ (v : ℕ). v * zm) (sum-times (suc N) ONE (λ n. distance n (mode X))))
-
-  -- A × 10^12 loses less than 10^12 a term
-  terms-low : weighted X U N * ONE ≤ wU
-  unfolding weighted term
-  terms-low =
-      omega (arith, sum-times (suc N) ONE (λ n. weight X n * U n / ONE), sum-mono (suc N) (λ n. weight X n * U n / ONE * ONE) (λ n. weight X n * U n) (λ n l. quotient-low (weight X n * U n) ONE))
-
-  terms-high : wU ≤ weighted X U N * ONE + (N + 1) * ONE
-  unfolding weighted term
-  terms-high =
-      let each = sum-mono (suc N) (λ n. weight X n * U n) (λ n. weight X n * U n / ONE * ONE + ONE) (λ n l. omega (arith, quotient-high (weight X n * U n) ONE one-pos)) in
-      omega (arith, each, sum-plus (suc N) (λ n. weight X n * U n / ONE * ONE) (λ n. ONE), sum-times (suc N) ONE (λ n. weight X n * U n / ONE), sum-constant (suc N) ONE)
-
   errors-max : errors ≤ (N + 1) * N
   unfolding distance
   errors-max =
       omega (arith, sum-mono (suc N) (λ n. distance n (mode X)) (λ n. N) (λ n l. omega arith), sum-constant (suc N) N)
+
+  -- the same with numbers U(n) of ticks
+  module _ (U : ℕ → ℕ) (U-max : (n : ℕ) → n ≤ N → U n ≤ ONE) where
+    -- exact weights times U, and weights times U
+    abbrev zU : ℕ
+    zU = sum (suc N) (λ n. z X L n * U n)
+
+    abbrev wU : ℕ
+    wU = sum (suc N) (λ n. weight X n * U n)
+
+    products-low : wU * zm ≤ GREATEST * zU
+    products-low =
+        let each = sum-mono (suc N) (λ n. weight X n * U n * zm) (λ n. z X L n * U n * GREATEST) (λ n l. omega (arith, mul-le-mul-right (U n) (at n l .low))) in
+        omega (arith, each, sum-times (suc N) zm (λ n. weight X n * U n), sum-times (suc N) GREATEST (λ n. z X L n * U n))
+
+    products-high : GREATEST * zU ≤ (wU + errors * ONE) * zm
+    products-high =
+        let each = sum-mono (suc N) (λ n. z X L n * U n * GREATEST) (λ n. (weight X n * U n + distance n (mode X) * ONE) * zm) (λ n l. omega (arith, mul-le-mul-right (U n) (at n l .high), mul-le-mul-left (distance n (mode X) * zm) (U-max n (omega arith)))) in
+        omega (arith, each, sum-times (suc N) zm (λ n. weight X n * U n + distance n (mode X) * ONE), sum-times (suc N) GREATEST (λ n. z X L n * U n), ap (λ (v : ℕ). v * zm) (sum-plus (suc N) (λ n. weight X n * U n) (λ n. distance n (mode X) * ONE)), ap (λ (v : ℕ). v * zm) (sum-times (suc N) ONE (λ n. distance n (mode X))))
+
+    -- A × 10^12 loses less than 10^12 a term
+    terms-low : weighted X U N * ONE ≤ wU
+    unfolding weighted term
+    terms-low =
+        omega (arith, sum-times (suc N) ONE (λ n. weight X n * U n / ONE), sum-mono (suc N) (λ n. weight X n * U n / ONE * ONE) (λ n. weight X n * U n) (λ n l. quotient-low (weight X n * U n) ONE))
+
+    terms-high : wU ≤ weighted X U N * ONE + (N + 1) * ONE
+    unfolding weighted term
+    terms-high =
+        let each = sum-mono (suc N) (λ n. weight X n * U n) (λ n. weight X n * U n / ONE * ONE + ONE) (λ n l. omega (arith, quotient-high (weight X n * U n) ONE one-pos)) in
+        omega (arith, each, sum-plus (suc N) (λ n. weight X n * U n / ONE * ONE) (λ n. ONE), sum-times (suc N) ONE (λ n. weight X n * U n / ONE), sum-constant (suc N) ONE)
 
 factor-pos : (a b : ℕ) → 0 < a * b → 0 < a
 factor-pos zero b h = omega arith
@@ -130,59 +132,16 @@ tail-core : (Zt ZN S ε zm : ℕ) → GREATEST * Zt * BILLION ≤ S * ε * zm �
 tail-core Zt ZN S ε zm h weights =
     le-of-mul-le-mul-left {k = GREATEST} (omega (arith, mul-le-mul-right ε weights)) greatest-pos
 
--- what a weighted mean is held against
-pub record Setting (X ε N r : ℕ) (U : ℕ → ℕ) (u : ℕ → Fraction) (P : ℕ) : Type 0 where
-  pub jumps : 0 < X
-  pub passes : Passes X ε N
-  pub short : N + 1 ≤ 1000
-  pub ticks-max : (n : ℕ) → n ≤ N → U n ≤ ONE
-  pub near : (n : ℕ) → Near (U n) (2 * (n + r)) ONE (u n)
-  pub last : LastQuotient (weighted X U N) (weightSum X N) P
-
-module _ (X ε N r : ℕ) (U : ℕ → ℕ) (u : ℕ → Fraction) (P : ℕ) (g : Setting X ε N r U u P) (L : ℕ) (past : N ≤ L) where
+-- of an N that passes the level's test: the weights up to N, and those past it, up to L
+module _ (X ε N L : ℕ) (X-pos : 0 < X) (passes : Passes X ε N) (past : N ≤ L) where
   reached : mode X ≤ N
-  reached = omega (arith, mode-low X, g .passes .past)
-
-  S-min : GREATEST ≤ weightSum X N
-  S-min = weightSum-min X N reached
+  reached = omega (arith, mode-low X, passes .past)
 
   weights : weightSum X N * z X L (mode X) ≤ GREATEST * sum (suc N) (z X L)
-  weights = weights-low X N L U (g .jumps) reached past (g .ticks-max)
-
-  er-max : sum (suc N) (λ n. distance n (mode X)) ≤ (N + 1) * N
-  er-max = errors-max X N L U (g .jumps) reached past (g .ticks-max)
-
-  up : sum (suc N) (λ n. z X L n * U n) ≤ (P + N + 3) * sum (suc N) (z X L)
-  up =
-      upper-core _ _ _ (z X L (mode X)) _ (weightSum X N) (weighted X U N) P N
-      (products-high X N L U (g .jumps) reached past (g .ticks-max))
-      (terms-high X N L U (g .jumps) reached past (g .ticks-max))
-      (g .last .high)
-      (room-above N _ (weightSum X N) (g .short) er-max S-min)
-      weights
-
-  down : P * sum (suc N) (z X L) ≤ sum (suc N) (λ n. z X L n * U n) + (N + 1) * sum (suc N) (z X L)
-  down =
-      lower-core _ _ _ (z X L (mode X)) _ (weightSum X N) (weighted X U N) P N
-      (products-low X N L U (g .jumps) reached past (g .ticks-max))
-      (terms-low X N L U (g .jumps) reached past (g .ticks-max))
-      (g .last .low)
-      (g .last .top)
-      (room-below N _ (weightSum X N) (g .short) er-max S-min)
-      weights
-      (weights-high X N L U (g .jumps) reached past (g .ticks-max))
+  weights = weights-low X N L X-pos reached past
 
   tail-small : tail X L N (L - N) * BILLION ≤ ε * sum (suc N) (z X L)
-  tail-small = tail-core _ _ (weightSum X N) ε (z X L (mode X)) (tail-within X ε L N (g .jumps) (g .passes) past) weights
-
-  -- the exact average, between whole numbers over the exact weights' sum
-
-  -- U up to N, and 0 past it; U with its error up to N, and ONE past it
-  at-least : ℕ → ℕ
-  at-least n = pick (leb n N) (U n) 0
-
-  at-most : ℕ → ℕ
-  at-most n = pick (leb n N) (U n + 2 * (n + r)) ONE
+  tail-small = tail-core _ _ (weightSum X N) ε (z X L (mode X)) (tail-within X ε L N X-pos passes past) weights
 
   split : (f : ℕ → ℕ) → sum (suc L) f ≡ sum (suc N) f + sum (L - N) (λ j. f (suc N + j))
   split f =
@@ -194,11 +153,85 @@ module _ (X ε N r : ℕ) (U : ℕ → ℕ) (u : ℕ → Fraction) (P : ℕ) (g 
       split (z X L)
       ∙ ap (λ (k : ℕ). sum (suc N) (z X L) + k) (sum-same (L - N) (λ j. z X L (suc N + j)) (λ j. z X L (N + 1 + j)) (λ j l. ap (z X L) (omega arith)))
 
+-- past an ε-th of the weights up to N nothing is left: (1 − ε) of all weights up to L is at most those up to N
+most-weights : (ZN Zt ε : ℕ) → Zt * BILLION ≤ ε * ZN → (BILLION - ε) * (ZN + Zt) ≤ BILLION * ZN
+most-weights ZN Zt ε h =
+    let b : ℕ = BILLION - ε in
+    elim (decLe ε BILLION) [
+      | yes l ↦
+          let whole : b + ε ≡ BILLION = omega arith in
+          omega (arith, h, mul-le-mul-right Zt (let part : b ≤ BILLION = omega arith in part), ap (λ (k : ℕ). k * ZN) whole)
+      | no l ↦ let none : b ≡ 0 = omega (arith, l) in rw none (omega arith)
+    ]
+
+-- two fractions from their whole-number bounds over one divisor D: b/B of x is at most y, where b × p is at most B × q
+part-of : (b p q D : ℕ) (x y : Fraction) → 0 < D → High p D x → Low q D y → b * p ≤ BILLION * q → AtMost (times (ratio b BILLION billion-pos) x) y
+part-of b p q D x y pos high low h =
+    record {
+      cross =
+          le-of-mul-le-mul-right {k = D}
+          (omega (arith, mul-le-mul-left (b * y .den) (high .high), mul-le-mul-right (x .den * y .den) h, mul-le-mul-left (BILLION * x .den) (low .low)))
+          pos;
+    }
+
+-- so N is a level that the papers' relation (10) takes
+pub weights-covered : (X ε N L : ℕ) → 0 < X → Passes X ε N → N ≤ L → AtMost (times (ratio (BILLION - ε) BILLION billion-pos) (total (suc L) (exactWeight X))) (total (suc N) (exactWeight X))
+weights-covered X ε N L X-pos passes past =
+    part-of (BILLION - ε) (sum (suc L) (z X L)) (sum (suc N) (z X L)) (divisor X L) (total (suc L) (exactWeight X)) (total (suc N) (exactWeight X)) (exactWeight X L .pos)
+    (total-high (suc L) (divisor X L) (z X L) (exactWeight X) (λ n l. exact-high X L n (omega arith)))
+    (total-low (suc N) (divisor X L) (z X L) (exactWeight X) (λ n l. exact-low X L n (omega arith)))
+    (rw (all-weights X ε N L X-pos passes past) (most-weights (sum (suc N) (z X L)) (tail X L N (L - N)) ε (tail-small X ε N L X-pos passes past)))
+
+-- what a weighted mean is held against
+pub record Setting (X ε N r : ℕ) (U : ℕ → ℕ) (u : ℕ → Fraction) (P : ℕ) : Type 0 where
+  pub jumps : 0 < X
+  pub passes : Passes X ε N
+  pub short : N + 1 ≤ 1000
+  pub ticks-max : (n : ℕ) → n ≤ N → U n ≤ ONE
+  pub near : (n : ℕ) → Near (U n) (2 * (n + r)) ONE (u n)
+  pub last : LastQuotient (weighted X U N) (weightSum X N) P
+
+module _ (X ε N r : ℕ) (U : ℕ → ℕ) (u : ℕ → Fraction) (P : ℕ) (g : Setting X ε N r U u P) (L : ℕ) (past : N ≤ L) where
+  S-min : GREATEST ≤ weightSum X N
+  S-min = weightSum-min X N (reached X ε N L (g .jumps) (g .passes) past)
+
+  er-max : sum (suc N) (λ n. distance n (mode X)) ≤ (N + 1) * N
+  er-max = errors-max X N L (g .jumps) (reached X ε N L (g .jumps) (g .passes) past) past
+
+  up : sum (suc N) (λ n. z X L n * U n) ≤ (P + N + 3) * sum (suc N) (z X L)
+  up =
+      upper-core _ _ _ (z X L (mode X)) _ (weightSum X N) (weighted X U N) P N
+      (products-high X N L (g .jumps) (reached X ε N L (g .jumps) (g .passes) past) past U (g .ticks-max))
+      (terms-high X N L (g .jumps) (reached X ε N L (g .jumps) (g .passes) past) past U (g .ticks-max))
+      (g .last .high)
+      (room-above N _ (weightSum X N) (g .short) er-max S-min)
+      (weights X ε N L (g .jumps) (g .passes) past)
+
+  down : P * sum (suc N) (z X L) ≤ sum (suc N) (λ n. z X L n * U n) + (N + 1) * sum (suc N) (z X L)
+  down =
+      lower-core _ _ _ (z X L (mode X)) _ (weightSum X N) (weighted X U N) P N
+      (products-low X N L (g .jumps) (reached X ε N L (g .jumps) (g .passes) past) past U (g .ticks-max))
+      (terms-low X N L (g .jumps) (reached X ε N L (g .jumps) (g .passes) past) past U (g .ticks-max))
+      (g .last .low)
+      (g .last .top)
+      (room-below N _ (weightSum X N) (g .short) er-max S-min)
+      (weights X ε N L (g .jumps) (g .passes) past)
+      (weights-high X N L (g .jumps) (reached X ε N L (g .jumps) (g .passes) past) past)
+
+  -- the exact average, between whole numbers over the exact weights' sum
+
+  -- U up to N, and 0 past it; U with its error up to N, and ONE past it
+  at-least : ℕ → ℕ
+  at-least n = pick (leb n N) (U n) 0
+
+  at-most : ℕ → ℕ
+  at-most n = pick (leb n N) (U n + 2 * (n + r)) ONE
+
   lower-sum : sum (suc N) (λ n. z X L n * U n) ≤ sum (suc L) (λ n. z X L n * at-least n)
   unfolding at-least
   lower-sum =
       let same = sum-same (suc N) (λ n. z X L n * U n) (λ n. z X L n * at-least n) (λ n l. rw (le-leb n N (omega arith))) in
-      omega (arith, split (λ n. z X L n * at-least n), same)
+      omega (arith, split X ε N L (g .jumps) (g .passes) past (λ n. z X L n * at-least n), same)
 
   upper-sum : sum (suc L) (λ n. z X L n * at-most n) ≤ sum (suc N) (λ n. z X L n * U n) + sum (suc N) (z X L) * (2 * (N + r)) + tail X L N (L - N) * ONE
   unfolding at-most
@@ -208,7 +241,7 @@ module _ (X ε N r : ℕ) (U : ℕ → ℕ) (u : ℕ → Fraction) (P : ℕ) (g 
       let rest = sum-same (L - N) (λ j. z X L (suc N + j) * at-most (suc N + j)) (λ j. z X L (N + 1 + j) * ONE)
       (λ j l. rw (lt-leb (suc N + j) N (omega arith)) (ap (λ (k : ℕ). z X L k * ONE) (omega arith))) in
       omega
-      (arith, split (λ n. z X L n * at-most n), head, rest, sum-plus (suc N) (λ n. z X L n * U n) (λ n. z X L n * (2 * (N + r))), sum-times (suc N) (2 * (N + r)) (z X L), sum-times (L - N) ONE (λ j. z X L (N + 1 + j)))
+      (arith, split X ε N L (g .jumps) (g .passes) past (λ n. z X L n * at-most n), head, rest, sum-plus (suc N) (λ n. z X L n * U n) (λ n. z X L n * (2 * (N + r))), sum-times (suc N) (2 * (N + r)) (z X L), sum-times (L - N) ONE (λ j. z X L (N + 1 + j)))
     where
       slack : (n : ℕ) → n < suc N → 2 * (n + r) ≤ 2 * (N + r)
       slack n l = omega arith
@@ -283,8 +316,8 @@ module _ (X ε N r : ℕ) (U : ℕ → ℕ) (u : ℕ → Fraction) (P : ℕ) (g 
   -- at any later L: the tolerance more
   pub close-past-level : (L : ℕ) → N ≤ L → Within (ticks P) (averageOf X u L) (plus (ratio ε BILLION billion-pos) (roundingTicks N r))
   close-past-level L past =
-      let all = all-weights X ε N r U u P g L past in
-      let t = tail-small X ε N r U u P g L past in
+      let all = all-weights X ε N L (g .jumps) (g .passes) past in
+      let t = tail-small X ε N L (g .jumps) (g .passes) past in
       bounded X ε N r U u P g L past (plus (ratio ε BILLION billion-pos) (roundingTicks N r))
       (rw all (past-low P _ _ _ N r ε (g .last .top) t (down X ε N r U u P g L past)))
       (rw all (past-high P _ _ _ N r ε t (up X ε N r U u P g L past)))

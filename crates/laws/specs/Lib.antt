@@ -35,3 +35,5 @@ pub mod WrittenLaws
 pub mod MovedLaws
 pub mod ConvertLaws
 pub mod PracticeLaws
+pub mod SheetLaws
+pub mod Proved
