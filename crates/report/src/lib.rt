@@ -3,7 +3,7 @@ use definitions::Outcome;
 ghost use mathlib.Core.List.{List};
 ghost use Prim.Native.Nat.{ℕ};
 ghost use lib.ListN.{take};
-ghost use Rattle.definitions.specs.Sheet.{sheet, printedSheet};
+ghost use Rattle.definitions.specs.Sheet.{SheetDenotes, sheet, printedSheet};
 ghost use Rattle.writing.specs.Printed.{Printed};
 ghost use Rattle.report.specs.Held.{Holds};
 
@@ -33,9 +33,11 @@ fn report_file(file: &[u8], out: &mut [u8; ROOM]) -> usize
 // Writes the sheet of the first `count` bytes of `buffer` at the start of `out` and returns its
 // length. Later bytes stay. A count above the buffer's length means all of it. Where those bytes
 // are the standard input, as far as the buffer has room for it, that is the sheet of the program.
+// Each figure on it, read as a decimal, is the number in its cell.
 pub fn report(buffer: &[u8; LIMIT], count: usize, out: &mut [u8; ROOM]) -> usize
     ensures file { λ n. ⌜ Printed (sheet (take count (now (buffer .entry)))) (now (out .entry)) (now (out .exit)) n ⌝ }
     ensures input { λ n. ⌜ ((input : List ℕ) → Holds (now (buffer .entry)) count input → Printed (printedSheet input) (now (out .entry)) (now (out .exit)) n) ⌝ }
+    ensures figures { λ n. ⌜ SheetDenotes (take count (now (buffer .entry))) ⌝ }
 {
     let whole: &[u8] = buffer;
     if count < LIMIT {

@@ -1,9 +1,9 @@
 -- Digits, and how long the texts of the sheet are. Assumes nothing.
-use mathlib.Core.Path.{_≡_, refl, ap}
+use mathlib.Core.Path.{_≡_, refl}
 use mathlib.Core.Bool.{Bool, true, false}
 use mathlib.Core.List.{List, [], _∷_, append-assoc}
 use Prim.Native.Nat.{ℕ, zero, suc, _+_, _-_, _/_, _%_, _^_, _≤_, _<_}
-use native.Mathlib.Nat.{pow-le-pow-right, one-le-pow, mul-le-mul}
+use native.Mathlib.Nat.{pow-le-pow-right, mul-le-mul}
 use native.Mathlib.Numerals.{add-one, sub-one}
 use native.Mathlib.Decide.{decLe, decLt}
 use native.Mathlib.Omega.{arith}
@@ -14,14 +14,6 @@ use Rattle.definitions.specs.Sums.{pick}
 use Rattle.definitions.specs.Sheet.{digit, digits, places, decimal, label, figureLine}
 use Rattle.laws.specs.Rounding.{remainder-below}
 use Rattle.sheet.specs.Printable.{line, lineWidth, Shape}
-
-pub power-positive : (p : ℕ) → 0 < 10 ^ p
-power-positive p = one-le-pow p 10 (omega arith)
-
-pub length-digits : (x p : ℕ) → length (digits x p) ≡ p
-unfolding digits
-length-digits x zero = refl
-length-digits x (suc p) = ap suc (length-digits x p)
 
 -- the highest of p digits, and the others
 pub next-digit : (x p : ℕ) → 0 < p → digit x (p - 1) ∷ digits x (p - 1) ≡ digits x p

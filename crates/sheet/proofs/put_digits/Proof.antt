@@ -8,7 +8,8 @@ use lib.Seq.{sets}
 use borrow.Author.Needs.{needs}
 use Rattle.definitions.specs.Sheet.{digits}
 use Rattle.writing.specs.Puts.{first-byte}
-use Rattle.sheet.specs.TextLaws.{next-digit, length-digits}
+use Rattle.laws.specs.SheetLaws.{length-digits}
+use Rattle.sheet.specs.TextLaws.{next-digit}
 use Rattle.sheet.proofs.put_digits.Statement.{statement}
 use Rattle.sheet.proofs.put_digits.Tie as tie
 
