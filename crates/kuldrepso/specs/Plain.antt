@@ -1,5 +1,6 @@
 -- The answer of a call as one plain number, for callers that have no enum of Rattle's.
 use Prim.Native.Nat.{ℕ, _+_, _-_}
+use mathlib.Core.Path.{_≡_}
 use lib.Dec.{ltb}
 use Rattle.definitions.specs.Sums.{pick}
 use Rattle.definitions.specs.declared.Rests.{Rests}
@@ -29,3 +30,8 @@ withNumbers (refused k) y = refused k
 -- the answer that a plain number stands for: below refusalsFrom an acceptance, any other a refusal
 unfoldable pub meant : ℕ → Answer ℕ
 meant x = pick (ltb x refusalsFrom) (accepted x) (refused (x - refusalsFrom))
+
+-- the number r tells the answer a: it is that answer's number, and stands for no other answer
+pub record Tells (r : ℕ) (a : Answer ℕ) : Type 0 where
+  pub number : r ≡ plainAnswer a
+  pub meaning : meant r ≡ a

@@ -12,7 +12,7 @@ ghost use Rattle.definitions.specs.Remainders.{remaindersOf, numberAfter, Worke
 ghost use Rattle.definitions.specs.Written.{countOf, bytesAfter, writtenAnswer};
 ghost use Rattle.definitions.specs.Convert.{toVersion2, toVersion1, ThereAndBack};
 ghost use Rattle.definitions.specs.Practice.{practice, DealtWell};
-ghost use Rattle.kuldrepso.specs.Plain.{plainAnswer, meant, givenOrNone, withNumbers};
+ghost use Rattle.kuldrepso.specs.Plain.{plainAnswer, meant, givenOrNone, withNumbers, Tells};
 use definitions::Outcome;
 use definitions::Remainders;
 use definitions::Series;
@@ -31,7 +31,7 @@ const NONE: u64 = 1;
 // row means to `means`; a refusal leaves it as it was.
 #[no_mangle]
 pub extern "C" fn kuldrepso_calculate(file: &[u8], cells: &mut [u64], means: &mut u64) -> u64
-    ensures answer { λ r. ⌜ r ≡ plainAnswer (saying (λ x. x .level) (outcome (now (file .entry)) (length (now (cells .entry))))) ⌝ }
+    ensures answer { λ r. ⌜ Tells r (saying (λ x. x .level) (outcome (now (file .entry)) (length (now (cells .entry))))) ⌝ }
     ensures cells { λ r. ⌜ now (cells .exit) ≡ cellsAfter (outcome (now (file .entry)) (length (now (cells .entry)))) (now (file .entry)) (now (cells .entry)) ⌝ }
     ensures promise { λ r. ⌜ Promised (outcome (now (file .entry)) (length (now (cells .entry)))) (now (file .entry)) (now (cells .exit)) ⌝ }
     ensures bounded { λ r. ⌜ LevelBounded (meant r) (now (file .entry)) ⌝ }
@@ -44,7 +44,7 @@ pub extern "C" fn kuldrepso_calculate(file: &[u8], cells: &mut [u64], means: &mu
             *means = run.means;
             run.level
         }
-        Outcome::Refused(row) => REFUSED + row as u64,
+        Outcome::Refused(k) => REFUSED + k as u64,
     }
 }
 
@@ -58,7 +58,7 @@ pub extern "C" fn kuldrepso_series(
     cells: &mut [u64],
     means: &mut u64,
 ) -> u64
-    ensures answer { λ r. ⌜ r ≡ plainAnswer (saying (λ n. length (now (times .entry))) (seriesOutcome (now (file .entry)) (now (times .entry)) (length (now (levels .entry))) (length (now (cells .entry))))) ⌝ }
+    ensures answer { λ r. ⌜ Tells r (saying (λ n. length (now (times .entry))) (seriesOutcome (now (file .entry)) (now (times .entry)) (length (now (levels .entry))) (length (now (cells .entry))))) ⌝ }
     ensures levels { λ r. ⌜ now (levels .exit) ≡ levelsAfter (seriesOutcome (now (file .entry)) (now (times .entry)) (length (now (levels .entry))) (length (now (cells .entry)))) (now (file .entry)) (now (times .entry)) (now (levels .entry)) ⌝ }
     ensures cells { λ r. ⌜ now (cells .exit) ≡ blocksAfter (seriesOutcome (now (file .entry)) (now (times .entry)) (length (now (levels .entry))) (length (now (cells .entry)))) (now (file .entry)) (now (times .entry)) (now (cells .entry)) ⌝ }
     ensures promise { λ r. ⌜ SeriesPromised (seriesOutcome (now (file .entry)) (now (times .entry)) (length (now (levels .entry))) (length (now (cells .entry)))) (now (file .entry)) (now (times .entry)) (now (levels .exit)) (now (cells .exit)) ⌝ }
@@ -89,7 +89,7 @@ pub extern "C" fn kuldrepso_remainders(
     share: &mut u64,
     mix: &mut u64,
 ) -> u64
-    ensures answer { λ a. ⌜ a ≡ plainAnswer (saying givenOrNone (remaindersOf (now (file .entry)) state n r)) ⌝ }
+    ensures answer { λ a. ⌜ Tells a (saying givenOrNone (remaindersOf (now (file .entry)) state n r)) ⌝ }
     ensures mean { λ a. ⌜ now (mean .exit) ≡ numberAfter (remaindersOf (now (file .entry)) state n r) (λ x. x .mean) (now (mean .entry)) ⌝ }
     ensures share { λ a. ⌜ now (share .exit) ≡ numberAfter (remaindersOf (now (file .entry)) state n r) (λ x. x .share) (now (share .entry)) ⌝ }
     ensures mix { λ a. ⌜ now (mix .exit) ≡ numberAfter (remaindersOf (now (file .entry)) state n r) (λ x. x .mix) (now (mix .entry)) ⌝ }
@@ -120,7 +120,7 @@ fn plain(answer: Written) -> u64
 // convert::to_version_2, with the count of bytes for an acceptance and REFUSED + k for refusal k.
 #[no_mangle]
 pub extern "C" fn kuldrepso_to_version_2(file: &[u8], out: &mut [u8]) -> u64
-    ensures answer { λ r. ⌜ r ≡ plainAnswer (countOf (toVersion2 (now (file .entry)) (length (now (out .entry))))) ⌝ }
+    ensures answer { λ r. ⌜ Tells r (countOf (toVersion2 (now (file .entry)) (length (now (out .entry))))) ⌝ }
     ensures bytes { λ r. ⌜ now (out .exit) ≡ bytesAfter (toVersion2 (now (file .entry)) (length (now (out .entry)))) (now (out .entry)) ⌝ }
     ensures moved { λ r. ⌜ ThereAndBack (toVersion2 (now (file .entry)) (length (now (out .entry)))) (now (file .entry)) toVersion1 ⌝ }
 {
@@ -130,7 +130,7 @@ pub extern "C" fn kuldrepso_to_version_2(file: &[u8], out: &mut [u8]) -> u64
 // convert::to_version_1, likewise.
 #[no_mangle]
 pub extern "C" fn kuldrepso_to_version_1(file: &[u8], out: &mut [u8]) -> u64
-    ensures answer { λ r. ⌜ r ≡ plainAnswer (countOf (toVersion1 (now (file .entry)) (length (now (out .entry))))) ⌝ }
+    ensures answer { λ r. ⌜ Tells r (countOf (toVersion1 (now (file .entry)) (length (now (out .entry))))) ⌝ }
     ensures bytes { λ r. ⌜ now (out .exit) ≡ bytesAfter (toVersion1 (now (file .entry)) (length (now (out .entry)))) (now (out .entry)) ⌝ }
     ensures moved { λ r. ⌜ ThereAndBack (toVersion1 (now (file .entry)) (length (now (out .entry)))) (now (file .entry)) toVersion2 ⌝ }
 {
@@ -140,7 +140,7 @@ pub extern "C" fn kuldrepso_to_version_1(file: &[u8], out: &mut [u8]) -> u64
 // practice::practice, with the count of bytes for an acceptance and REFUSED + k for refusal k.
 #[no_mangle]
 pub extern "C" fn kuldrepso_practice(states: u64, highest: u64, seed: u32, out: &mut [u8]) -> u64
-    ensures answer { λ r. ⌜ r ≡ plainAnswer (countOf (practice states highest seed (length (now (out .entry))))) ⌝ }
+    ensures answer { λ r. ⌜ Tells r (countOf (practice states highest seed (length (now (out .entry))))) ⌝ }
     ensures bytes { λ r. ⌜ now (out .exit) ≡ bytesAfter (practice states highest seed (length (now (out .entry)))) (now (out .entry)) ⌝ }
     ensures dealt { λ r. ⌜ DealtWell (practice states highest seed (length (now (out .entry)))) states highest seed ⌝ }
 {

@@ -5,6 +5,7 @@ use borrow.Author.Needs.{needs}
 use Rattle.definitions.specs.declared.Remainders.{Remainders}
 use Rattle.definitions.specs.Remainders.{remaindersAnswer, remaindersOf, WorkedOut}
 use Rattle.kuldrepso.specs.Plain.{plainAnswer}
+use Rattle.kuldrepso.specs.PlainLaws.{remainders-told}
 use Rattle.kuldrepso.proofs.kuldrepso_remainders.Statement.{statement}
 use Rattle.kuldrepso.proofs.kuldrepso_remainders.Tie as tie
 
@@ -25,21 +26,21 @@ unfolding plainAnswer
 returns c =
     let called = c .before .before .before in
     let told = c .before .rests .given .1 in
-    rw (answered called _ told) (omega arith, (omega arith, (omega arith, (omega arith, worked called _ told))))
+    rw (answered called _ told) (remainders-told _ (answered called _ told) _ (omega arith), (omega arith, (omega arith, (omega arith, worked called _ told))))
 
 returns-2 : tie.Need-returns-2
 unfolding plainAnswer
 returns-2 c =
     let called = c .before .before in
     let told = c .enum-told .given .1 in
-    rw (answered called _ told) (omega arith, (omega arith, (omega arith, (omega arith, worked called _ told))))
+    rw (answered called _ told) (remainders-told _ (answered called _ told) _ (omega arith), (omega arith, (omega arith, (omega arith, worked called _ told))))
 
 returns-3 : tie.Need-returns-3
 unfolding plainAnswer
 returns-3 c =
     let called = c .before .before .before in
     let told = c .before .k .given .1 in
-    rw (answered called _ told) (omega arith, (omega arith, (omega arith, (omega arith, worked called _ told))))
+    rw (answered called _ told) (remainders-told _ (answered called _ told) _ (omega arith), (omega arith, (omega arith, (omega arith, worked called _ told))))
 
 pub kuldrepso-remainders-spec : {M : Type 1} → statement M
 kuldrepso-remainders-spec =

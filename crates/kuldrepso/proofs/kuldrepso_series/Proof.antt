@@ -6,6 +6,7 @@ use borrow.Author.Needs.{needs}
 use Rattle.definitions.specs.declared.Series.{Series}
 use Rattle.definitions.specs.Series.{seriesOutcome, seriesAnswer}
 use Rattle.kuldrepso.specs.Plain.{plainAnswer}
+use Rattle.kuldrepso.specs.PlainLaws.{series-told}
 use Rattle.kuldrepso.proofs.kuldrepso_series.Statement.{statement}
 use Rattle.kuldrepso.proofs.kuldrepso_series.Tie as tie
 
@@ -21,7 +22,7 @@ returns c =
     let solved = c .before .before .before .before .before .before .before in
     let told = c .before .taken .given .1 in
     let rest = rw told at (solved .series .ensures .1) in
-    rw (answered solved _ told) (omega arith, (rest .0, (rest .1 .0, (rest .1 .1 .0, (rest .1 .1 .1 .0, (rest .1 .1 .1 .1 .0, (rest .1 .1 .1 .1 .1 .0, (rest .1 .1 .1 .1 .1 .1, omega arith))))))))
+    rw (answered solved _ told) (series-told _ _ _ _ _ (answered solved _ told) _ (omega arith), (rest .0, (rest .1 .0, (rest .1 .1 .0, (rest .1 .1 .1 .0, (rest .1 .1 .1 .1 .0, (rest .1 .1 .1 .1 .1 .0, (rest .1 .1 .1 .1 .1 .1, omega arith))))))))
 
 returns-2 : tie.Need-returns-2
 unfolding plainAnswer
@@ -29,7 +30,7 @@ returns-2 c =
     let refusal = c .before .before .before .before .before .before .before in
     let told = c .before .k .given .1 in
     let rest = rw told at (refusal .series .ensures .1) in
-    rw (answered refusal _ told) (omega arith, (rest .0, (rest .1 .0, (rest .1 .1 .0, (rest .1 .1 .1 .0, (rest .1 .1 .1 .1 .0, (rest .1 .1 .1 .1 .1 .0, (rest .1 .1 .1 .1 .1 .1, omega arith))))))))
+    rw (answered refusal _ told) (series-told _ _ _ _ _ (answered refusal _ told) _ (omega arith), (rest .0, (rest .1 .0, (rest .1 .1 .0, (rest .1 .1 .1 .0, (rest .1 .1 .1 .1 .0, (rest .1 .1 .1 .1 .1 .0, (rest .1 .1 .1 .1 .1 .1, omega arith))))))))
 
 pub kuldrepso-series-spec : {M : Type 1} → statement M
 kuldrepso-series-spec =
