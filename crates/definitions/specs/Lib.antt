@@ -31,3 +31,4 @@ pub mod StartChecked
 pub mod OrderChecked
 pub mod PracticeChecked
 pub mod ArrowsChecked
+pub mod PromiseChecked
