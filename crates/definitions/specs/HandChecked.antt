@@ -8,6 +8,7 @@ use mathlib.Core.Path.{_≡_, refl}
 use native.Mathlib.Omega.{arith}
 use lib.ListN.{length, set, replicate}
 use lib.Dec.{lit<}
+use Rattle.definitions.specs.declared.Rests.{Rests}
 use Rattle.definitions.specs.Sums.{sum, largest, anyAbove, firsts, over, blocks, pick}
 use Rattle.definitions.specs.Bytes.{big, bytesOf}
 use Rattle.definitions.specs.File.{withTime, distributions}
@@ -19,7 +20,7 @@ use Rattle.definitions.specs.Level.{tailBound, allowance, passes?, first
 use Rattle.definitions.specs.Moment.{term, weighted, nearest, lastQuotient, weightedMean, moment, figureOf, cell, modelLevel, runTo, outcome, cellsAfter, countAfter}
 use Rattle.definitions.specs.Series.{levelAt, seriesOutcome, levelsAfter, blocksAfter}
 use Rattle.definitions.specs.Maybe.{none, given}
-use Rattle.definitions.specs.Remainders.{meanOf, shareOf, restsAt, restsOf, remaindersOf, numberAfter}
+use Rattle.definitions.specs.Remainders.{meanOf, shareOf, restsAt, restsOf, remaindersOf, numberAfter, WorkedOut}
 use Rattle.definitions.specs.Fraction.{Same, ratio, total, power}
 use Rattle.definitions.specs.Average.{exactMean, exactShare, exactMix, exactFirst, exactNext, exactU, factorial, exactWeight, averageOf, average}
 use Rattle.definitions.specs.Sheet.{digit, digits, places, decimal, figure, label, figureLine, figureLines, levelLine, sheetOf, lentCells, sheet, printedSheet}
@@ -227,6 +228,15 @@ uneven-rests = refl
 pub uneven-quotients : (meanOf unevenChain 3 2 1 ≡ 681069423867) × (shareOf unevenChain 3 2 1 ≡ 320987530863) × (U unevenChain 3 2 1 ≡ 537036666665)
 unfolding sum largest big distributions jumpRate rowSum uniformRate c maxReward rowMean rewardShare mix nextEntry firstVectors nextVectors U
 uneven-quotients = (refl, refl, refl)
+
+-- no other remainder gives its dividend back with that quotient, and each is below its divisor
+pub uneven-whole : (x : Rests) → WorkedOut (accepted (given x)) unevenB 2 3 2 → (x .mean ≡ 555555) × (x .share ≡ 5) × (x .mix ≡ 2)
+unfolding sum largest big distributions jumpRate rowSum uniformRate c maxReward rowMean rewardShare mix nextEntry firstVectors nextVectors U
+uneven-whole x h = (omega (arith, h .mean .whole), omega (arith, h .share .whole), omega (arith, h .mix .whole))
+
+pub uneven-below : (x : Rests) → WorkedOut (accepted (given x)) unevenB 2 3 2 → (x .mean < 1000000) × (x .share < 9) × (x .mix < 5)
+unfolding sum largest big distributions jumpRate rowSum uniformRate maxReward
+uneven-below x h = (omega (arith, h .mean .rest), omega (arith, h .share .rest), omega (arith, h .mix .rest))
 
 -- what is asked of a file: a state, n and r
 pub record Asked : Type 0 where

@@ -32,3 +32,4 @@ pub mod OrderChecked
 pub mod PracticeChecked
 pub mod ArrowsChecked
 pub mod PromiseChecked
+pub mod SheetChecked
