@@ -16,7 +16,7 @@ use Rattle.definitions.specs.Chain.{Model, modelOf, Chain, jumpRate, row
 use Rattle.definitions.specs.Rules.{accepted, refused, framing, quantities, fallsUpTo, listing, jumps, room, rows, seriesRows, firstHeld, judgement, seriesJudgement}
 use Rattle.definitions.specs.Vectors.{ONE, rowMean, rewardShare, mix, nextEntry, firstVectors, nextVectors, U, rowMeans}
 use Rattle.definitions.specs.Weights.{mode, rightward, leftward, weight, weightSum}
-use Rattle.definitions.specs.Level.{tailBound, allowance, passes?, firstFrom, level, lastLevel}
+use Rattle.definitions.specs.Level.{tailBound, allowance, IsLevel, passes?, firstFrom, level, lastLevel}
 use Rattle.definitions.specs.Moment.{term, weighted, nearest, lastQuotient, weightedMean, moment, figureOf, cell, modelLevel, runTo, outcome, cellsAfter, countAfter}
 use Rattle.definitions.specs.Series.{levelAt, seriesOutcome, levelsAfter, blocksAfter}
 use Rattle.definitions.specs.Maybe.{none, given}
@@ -155,6 +155,11 @@ counts-apart = refl
 pub bounds : (lastLevel XB ≡ 53) × (lastLevel 1999999 ≡ 53) × (lastLevel 2000000 ≡ 55) × (lastLevel 256000000 ≡ 563) × (lastLevel 999999 ≡ 51)
 unfolding sum largest big distributions jumpRate rowSum uniformRate jumpMillionths mode
 bounds = (refl, refl, refl, refl, refl)
+
+-- "N is the least n" that passes: 2 does not pass, and 4 is not the least, as 3 passes
+pub not-the-level : (IsLevel XB εB 2 → ⊥) × (IsLevel XB εB 4 → ⊥)
+unfolding sum largest big distributions jumpRate rowSum uniformRate jumpMillionths mode rightward leftward weight weightSum tailBound allowance
+not-the-level = (λ h. omega (arith, h .passes .small), λ h. omega (arith, h .least 3 (record { past = omega arith; small = omega arith })))
 
 -- B with the time 4,294,901,244, its bytes FF FE FD FC
 pub time-in-B : withTime fileB 0xFFFEFDFC ≡ set (set (set (set fileB 9 0xFF) 10 0xFE) 11 0xFD) 12 0xFC

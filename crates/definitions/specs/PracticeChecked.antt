@@ -7,7 +7,7 @@ use lib.ListN.{getD, set}
 use Rattle.definitions.specs.Sums.{firsts}
 use Rattle.definitions.specs.Bytes.{big, bytesOf}
 use Rattle.definitions.specs.File.{distributions}
-use Rattle.definitions.specs.Rules.{Answer, accepted, refused, framing, quantities, jumps, room, rows, firstHeld, fileJudgement}
+use Rattle.definitions.specs.Rules.{Answer, accepted, refused, framing, room, rows, firstHeld, fileJudgement}
 use Rattle.definitions.specs.Moment.{outcome}
 use Rattle.definitions.specs.Fields.{Fields, numbersAt, wordsOf, fieldsOf, headed, fileOf}
 use Rattle.definitions.specs.Written.{written, fileFor, bytesAfter}
@@ -98,7 +98,15 @@ pub dealt-fields : (DealtWell (accepted (set dealt1 12 5)) 2 2 1 → ⊥) × (De
 unfolding next stream upper draw firsts big distributions numbersAt fieldsOf practiceFields
 dealt-fields = (λ h. omega (arith, ap (λ (f : Fields). f .time) (h .states-fields)), λ h. omega (arith, ap (λ (f : Fields). getD (f .rates) 1 0) (h .states-fields)))
 
--- and of one with a byte more, whose fields are the same: it is not accepted where version 1 alone is admitted, and has no figures with just 4 cells
-pub dealt-too-long : (DealtWell (accepted (dealt1 ++ 0 ∷ [])) 2 2 1 → ⊥) × (DealtWell (accepted (dealt1 ++ 0 ∷ [])) 2 2 1 → ⊥)
-unfolding big framing quantities jumps room rows firstHeld fileJudgement outcome
-dealt-too-long = (λ h. omega (arith, ap rowOf (h .accepts 1 (omega arith))), λ h. omega (arith, ap rowOf (h .has-figures 4 (omega arith))))
+-- and of one with a byte more, whose fields are the same: it is accepted neither where version 1 alone is admitted nor where both are, and has no figures,
+-- with just 4 cells or more
+abbrev pub tooLong : List ℕ
+tooLong = dealt1 ++ 0 ∷ []
+
+pub dealt-unaccepted : (DealtWell (accepted tooLong) 2 2 1 → ⊥) × (DealtWell (accepted tooLong) 2 2 1 → ⊥)
+unfolding big framing firstHeld fileJudgement
+dealt-unaccepted = (λ h. omega (arith, ap rowOf (h .accepts 1 (omega arith))), λ h. omega (arith, ap rowOf (h .accepts 2 (omega arith))))
+
+pub dealt-without-figures : (DealtWell (accepted tooLong) 2 2 1 → ⊥) × (DealtWell (accepted tooLong) 2 2 1 → ⊥)
+unfolding big framing rows firstHeld outcome
+dealt-without-figures = (λ h. omega (arith, ap rowOf (h .has-figures 4 (omega arith))), λ h. omega (arith, ap rowOf (h .has-figures 520 (omega arith))))

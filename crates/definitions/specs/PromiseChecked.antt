@@ -21,7 +21,7 @@ use Rattle.definitions.specs.Level.{tailBound, allowance, passes?, first
 use Rattle.definitions.specs.Moment.{term, weighted, nearest, lastQuotient, weightedMean, moment, cellOf, figureOf, cell, modelLevel, outcome, cellsAfter, countAfter, LevelBounded}
 use Rattle.definitions.specs.Fraction.{Fraction, AtMost, Same, ratio, plus, total, power}
 use Rattle.definitions.specs.Average.{exactMean, exactShare, exactMix, exactFirst, exactNext, exactU, factorial, exactWeight, averageOf, average, startAverage}
-use Rattle.definitions.specs.Promise.{ticks, Within, roundingTicks, Promise}
+use Rattle.definitions.specs.Promise.{ticks, toleranceOf, Within, roundingTicks, startTicks, Promise}
 use Rattle.definitions.specs.Series.{AreRuns, SeriesPromised, LevelsBounded}
 use Rattle.definitions.specs.HandChecked.{fileA, fileB, modelB}
 use Rattle.definitions.specs.StartChecked.{startB}
@@ -95,6 +95,11 @@ pub last-later-below : Promise fileB 3 (last 75384615368) → ⊥
 unfolding cellOf big distributions
 last-later-below h = too-low (h .close 1 2 (omega arith) (omega arith) (omega arith) .past-level 4 (omega arith)) (last-averages (h .rewarded) .1) refl
 
+-- and so at every later level
+pub every-later : (L : ℕ) → 3 ≤ L → (h : Promise fileB 3 (first 718750000000)) → Within (ticks 718750000000) (average modelB (h .rewarded) L 1 0) (plus (toleranceOf modelB) (roundingTicks 3 1))
+unfolding cellOf
+every-later L past h = h .close 0 1 (omega arith) (omega arith) (omega arith) .past-level L (omega (arith, past))
+
 -- one tick less, and the first moment is within
 pub first-within :
     (h : 0 < maxReward modelB)
@@ -162,6 +167,11 @@ pub last-start-later-below : Promise startB 3 (last-start 183846153829) → ⊥
 unfolding cellOf big distributions
 last-start-later-below h = too-low (h .start-close 2 (omega arith) (omega arith) (omega arith) .past-level 4 (omega arith)) (last-start-averages (h .rewarded) .1) refl
 
+-- and so at every later level
+pub every-start-later : (L : ℕ) → 3 ≤ L → (h : Promise startB 3 (first-start 390625000000)) → Within (ticks 390625000000) (startAverage startModel (h .rewarded) L 1) (plus (toleranceOf startModel) (startTicks 3 1))
+unfolding cellOf distributions
+every-start-later L past h = h .start-close 1 (omega arith) (omega arith) (omega arith) .past-level L (omega (arith, past))
+
 -- no start figure is above 1
 pub start-above-one : Promise startB 3 (last-start 1000000000001) → ⊥
 unfolding cellOf distributions
@@ -178,7 +188,11 @@ second-average h = record { cross = refl }
 abbrev both : ℕ → List ℕ
 both p = 718750000000 ∷ 612500000000 ∷ 281250000000 ∷ 175000000000 ∷ 628571428571 ∷ 476190476190 ∷ 371428571428 ∷ p ∷ 7 ∷ []
 
--- one tick more than 19
+-- the first block, by one tick more than 14, and the second by one more than 19
+pub first-block-above : SeriesPromised (accepted 16) fileB (1 ∷ 2 ∷ []) (3 ∷ 4 ∷ []) (first 718750000015) → ⊥
+unfolding cellOf big bytesOf distributions withTime
+first-block-above h = too-high (h 0 (omega arith) .close 0 1 (omega arith) (omega arith) (omega arith) .at-level) (first-averages (h 0 (omega arith) .rewarded) .0) refl
+
 pub second-block-above : SeriesPromised (accepted 16) fileB (1 ∷ 2 ∷ []) (3 ∷ 4 ∷ []) (both 219047619067) → ⊥
 unfolding cellOf big bytesOf distributions withTime
 second-block-above h = too-high (h 1 (omega arith) .close 1 2 (omega arith) (omega arith) (omega arith) .at-level) (second-average (h 1 (omega arith) .rewarded)) refl
@@ -187,7 +201,11 @@ pub second-block-below : SeriesPromised (accepted 16) fileB (1 ∷ 2 ∷ []) (3 
 unfolding cellOf big bytesOf distributions withTime
 second-block-below h = too-low (h 1 (omega arith) .close 1 2 (omega arith) (omega arith) (omega arith) .at-level) (second-average (h 1 (omega arith) .rewarded)) refl
 
--- another last level, and another last cell, by a tick
+-- another level, the first and the last, and another last cell, by a tick
+pub first-level : AreRuns (accepted 16) fileB (1 ∷ 2 ∷ []) (4 ∷ 4 ∷ []) (replicate 9 7) (both 219047619047) → ⊥
+unfolding sum largest anyAbove firsts over big bytesOf withTime distributions jumpRate rowSum uniformRate jumpMillionths framing quantities jumps room rows firstHeld rowMeans mode rightward leftward weight weightSum tailBound allowance passes? firstFrom level modelLevel outcome
+first-level h = omega (arith, ap (λ (a : Answer Run). countAfter (saying (λ x. x .level) a) 0) (h 0 (omega arith) .same-level))
+
 pub second-level : AreRuns (accepted 16) fileB (1 ∷ 2 ∷ []) (3 ∷ 5 ∷ []) (replicate 9 7) (both 219047619047) → ⊥
 unfolding sum largest anyAbove firsts over big bytesOf withTime distributions jumpRate rowSum uniformRate jumpMillionths framing quantities jumps room rows firstHeld rowMeans mode rightward leftward weight weightSum tailBound allowance passes? firstFrom level modelLevel outcome
 second-level h = omega (arith, ap (λ (a : Answer Run). countAfter (saying (λ x. x .level) a) 0) (h 1 (omega arith) .same-level))
@@ -205,6 +223,10 @@ bound-reached = omega arith
 pub bound-passed : LevelBounded (accepted 54) fileB → ⊥
 unfolding sum largest big bytesOf withTime distributions jumpRate rowSum uniformRate jumpMillionths mode
 bound-passed h = omega (arith, h)
+
+pub first-bound-passed : LevelsBounded (accepted 16) fileB (1 ∷ 2 ∷ []) (54 ∷ 4 ∷ []) → ⊥
+unfolding sum largest big bytesOf withTime distributions jumpRate rowSum uniformRate jumpMillionths mode
+first-bound-passed h = omega (arith, h 0 (omega arith))
 
 pub second-bound-passed : LevelsBounded (accepted 16) fileB (1 ∷ 2 ∷ []) (3 ∷ 56 ∷ []) → ⊥
 unfolding sum largest big bytesOf withTime distributions jumpRate rowSum uniformRate jumpMillionths mode

@@ -1,14 +1,15 @@
 -- "The printed sheet", checked by hand: that of ten states, how much the program lends and reads, and an input that is longer.
 use Prim.Native.Nat.{ℕ, _+_, _*_}
+use native.Mathlib.Omega.{arith}
 use mathlib.Core.List.{List, [], _∷_, _++_}
 use mathlib.Core.Path.{_≡_, refl}
-use lib.ListN.{replicate}
+use lib.ListN.{getD, replicate}
 use Rattle.definitions.specs.Sums.{sum, largest, anyAbove, firsts, over}
 use Rattle.definitions.specs.Bytes.{big}
 use Rattle.definitions.specs.File.{distributions}
 use Rattle.definitions.specs.Chain.{jumpRate, rowSum, uniformRate, c, maxReward, jumpMillionths}
 use Rattle.definitions.specs.Rules.{framing, quantities, jumps, room, rows, firstHeld}
-use Rattle.definitions.specs.Vectors.{rowMean, rewardShare, mix, nextEntry, firstVectors, nextVectors, U}
+use Rattle.definitions.specs.Vectors.{ONE, rowMean, rewardShare, mix, nextEntry, firstVectors, nextVectors, U}
 use Rattle.definitions.specs.Weights.{mode, rightward, leftward, weight, weightSum}
 use Rattle.definitions.specs.Level.{tailBound, allowance, passes?, firstFrom, level}
 use Rattle.definitions.specs.Moment.{term, weighted, nearest, lastQuotient, weightedMean, moment, figureOf, cell, modelLevel, outcome, cellsAfter}
@@ -38,6 +39,11 @@ sheetTen =
     ∷ 49 ∷ 48 ∷ 32 ∷ 49 ∷ 32 ∷ 49 ∷ 46 ∷ 48 ∷ 48 ∷ 48 ∷ 48 ∷ 48 ∷ 48 ∷ 48 ∷ 48 ∷ 48 ∷ 48 ∷ 48 ∷ 48 ∷ 10
     ∷ []
 
+-- its last line alone
+pub tenth-line : figureLine 10 1 (replicate 9 0 ++ ONE ∷ []) 9 ≡ 49 ∷ 48 ∷ 32 ∷ 49 ∷ 32 ∷ 49 ∷ 46 ∷ replicate 12 48 ++ 10 ∷ []
+unfolding digit digits places decimal figure label figureLine
+tenth-line = refl
+
 pub sheet-of-ten : printedSheet fileTen ≡ sheetTen
 unfolding sum largest anyAbove firsts over big distributions jumpRate rowSum uniformRate c maxReward jumpMillionths framing quantities jumps room rows firstHeld rowMean rewardShare mix nextEntry firstVectors nextVectors U mode rightward leftward weight weightSum tailBound allowance passes? firstFrom level term weighted nearest lastQuotient weightedMean moment figureOf cell modelLevel outcome cellsAfter digit digits places decimal figure label figureLine figureLines levelLine sheetOf sheet printedSheet
 sheet-of-ten = refl
@@ -50,7 +56,11 @@ lent-and-read = (refl, refl)
 abbrev pub longInput : List ℕ
 longInput = 0x41 ∷ 0x0E ∷ replicate 16654 0
 
--- judged as read, its first 16,654 bytes are "refused 2"; judged whole it would be "refused 3"
-pub long-input : (printedSheet longInput ≡ 114 ∷ 101 ∷ 102 ∷ 117 ∷ 115 ∷ 101 ∷ 100 ∷ 32 ∷ 50 ∷ 10 ∷ []) × (sheet longInput ≡ 114 ∷ 101 ∷ 102 ∷ 117 ∷ 115 ∷ 101 ∷ 100 ∷ 32 ∷ 51 ∷ 10 ∷ [])
+-- its byte 8, the number of the refusal: judged as read, by its first 16,654 bytes, it is "refused 2"; judged whole it would be "refused 3"
+pub long-number : (getD (printedSheet longInput) 8 0 ≡ 50) × (getD (sheet longInput) 8 0 ≡ 51)
 unfolding big framing quantities jumps room rows firstHeld outcome cellsAfter digit digits places decimal refusedLine sheetOf sheet printedSheet
-long-input = (refl, refl)
+long-number = (omega arith, omega arith)
+
+pub long-input : printedSheet longInput ≡ 114 ∷ 101 ∷ 102 ∷ 117 ∷ 115 ∷ 101 ∷ 100 ∷ 32 ∷ 50 ∷ 10 ∷ []
+unfolding big framing quantities jumps room rows firstHeld outcome cellsAfter digit digits places decimal refusedLine sheetOf sheet printedSheet
+long-input = refl

@@ -116,7 +116,7 @@ unfolding written
 bytes-after = (refl, refl, refl)
 
 -- what is promised of a moved file, there and back, is false of one that is not accepted (time 0), has another level (tolerance 16,113,920), has other moments
--- (the second reward 1), or does not come back (R = 1), lent just the bytes of the file that was moved
+-- (the second reward 1), or does not come back (R = 1), lent just enough bytes and lent more
 
 -- the row that an answer names, 0 where it is an acceptance
 abbrev pub rowOf : {A : Type 0} → Answer A → ℕ
@@ -139,5 +139,5 @@ pub moved-for-good : (ThereAndBack (accepted (set movedB 4 1)) fileB toVersion1 
 unfolding sum largest anyAbove firsts big bytesOf distributions jumpRate rowSum uniformRate framing quantities jumps room firstHeld written fileFor numbersAt wordsOf fieldsOf headed fileOf inVersion2 inVersion1 elsewhere toVersion2 toVersion1
 moved-for-good = (
   λ h. omega (arith, ap (λ (a : Answer (List ℕ)). getD (bytesAfter a []) 4 0) (h .returns 29 (omega arith))),
-  λ h. omega (arith, ap (λ (a : Answer (List ℕ)). getD (bytesAfter a []) 4 0) (h .returns 37 (omega arith))),
+  λ h. omega (arith, ap (λ (a : Answer (List ℕ)). getD (bytesAfter a []) 4 0) (h .returns 99 (omega arith))),
 )
