@@ -8,6 +8,7 @@ use mathlib.Core.Path.{_≡_, refl}
 use native.Mathlib.Omega.{arith}
 use lib.ListN.{length, set, replicate}
 use lib.Dec.{lit<}
+use Rattle.definitions.specs.declared.Rests.{Rests}
 use Rattle.definitions.specs.Sums.{sum, largest, anyAbove, firsts, over, blocks, pick}
 use Rattle.definitions.specs.Bytes.{big, bytesOf}
 use Rattle.definitions.specs.File.{withTime, distributions}
@@ -15,11 +16,11 @@ use Rattle.definitions.specs.Chain.{Model, modelOf, Chain, jumpRate, row
 use Rattle.definitions.specs.Rules.{accepted, refused, framing, quantities, fallsUpTo, listing, jumps, room, rows, seriesRows, firstHeld, judgement, seriesJudgement}
 use Rattle.definitions.specs.Vectors.{ONE, rowMean, rewardShare, mix, nextEntry, firstVectors, nextVectors, U, rowMeans}
 use Rattle.definitions.specs.Weights.{mode, rightward, leftward, weight, weightSum}
-use Rattle.definitions.specs.Level.{tailBound, allowance, passes?, firstFrom, level, lastLevel}
+use Rattle.definitions.specs.Level.{tailBound, allowance, IsLevel, passes?, firstFrom, level, lastLevel}
 use Rattle.definitions.specs.Moment.{term, weighted, nearest, lastQuotient, weightedMean, moment, figureOf, cell, modelLevel, runTo, outcome, cellsAfter, countAfter}
 use Rattle.definitions.specs.Series.{levelAt, seriesOutcome, levelsAfter, blocksAfter}
 use Rattle.definitions.specs.Maybe.{none, given}
-use Rattle.definitions.specs.Remainders.{meanOf, shareOf, restsAt, restsOf, remaindersOf, numberAfter}
+use Rattle.definitions.specs.Remainders.{meanOf, shareOf, restsAt, restsOf, remaindersOf, numberAfter, WorkedOut}
 use Rattle.definitions.specs.Fraction.{Same, ratio, total, power}
 use Rattle.definitions.specs.Average.{exactMean, exactShare, exactMix, exactFirst, exactNext, exactU, factorial, exactWeight, averageOf, average}
 use Rattle.definitions.specs.Sheet.{digit, digits, places, decimal, figure, label, figureLine, figureLines, levelLine, sheetOf, lentCells, sheet, printedSheet}
@@ -155,6 +156,11 @@ pub bounds : (lastLevel XB ≡ 53) × (lastLevel 1999999 ≡ 53) × (lastLevel 2
 unfolding sum largest big distributions jumpRate rowSum uniformRate jumpMillionths mode
 bounds = (refl, refl, refl, refl, refl)
 
+-- "N is the least n" that passes: 2 does not pass, and 4 is not the least, as 3 passes
+pub not-the-level : (IsLevel XB εB 2 → ⊥) × (IsLevel XB εB 4 → ⊥)
+unfolding sum largest big distributions jumpRate rowSum uniformRate jumpMillionths mode rightward leftward weight weightSum tailBound allowance
+not-the-level = (λ h. omega (arith, h .passes .small), λ h. omega (arith, h .least 3 (record { past = omega arith; small = omega arith })))
+
 -- B with the time 4,294,901,244, its bytes FF FE FD FC
 pub time-in-B : withTime fileB 0xFFFEFDFC ≡ set (set (set (set fileB 9 0xFF) 10 0xFE) 11 0xFD) 12 0xFC
 unfolding bytesOf withTime
@@ -227,6 +233,15 @@ uneven-rests = refl
 pub uneven-quotients : (meanOf unevenChain 3 2 1 ≡ 681069423867) × (shareOf unevenChain 3 2 1 ≡ 320987530863) × (U unevenChain 3 2 1 ≡ 537036666665)
 unfolding sum largest big distributions jumpRate rowSum uniformRate c maxReward rowMean rewardShare mix nextEntry firstVectors nextVectors U
 uneven-quotients = (refl, refl, refl)
+
+-- no other remainder gives its dividend back with that quotient, and each is below its divisor
+pub uneven-whole : (x : Rests) → WorkedOut (accepted (given x)) unevenB 2 3 2 → (x .mean ≡ 555555) × (x .share ≡ 5) × (x .mix ≡ 2)
+unfolding sum largest big distributions jumpRate rowSum uniformRate c maxReward rowMean rewardShare mix nextEntry firstVectors nextVectors U
+uneven-whole x h = (omega (arith, h .mean .whole), omega (arith, h .share .whole), omega (arith, h .mix .whole))
+
+pub uneven-below : (x : Rests) → WorkedOut (accepted (given x)) unevenB 2 3 2 → (x .mean < 1000000) × (x .share < 9) × (x .mix < 5)
+unfolding sum largest big distributions jumpRate rowSum uniformRate maxReward
+uneven-below x h = (omega (arith, h .mean .rest), omega (arith, h .share .rest), omega (arith, h .mix .rest))
 
 -- what is asked of a file: a state, n and r
 pub record Asked : Type 0 where

@@ -33,3 +33,5 @@ pub mod StartChecked
 pub mod OrderChecked
 pub mod PracticeChecked
 pub mod ArrowsChecked
+pub mod PromiseChecked
+pub mod SheetChecked

@@ -147,6 +147,17 @@ raised-answer before after none = none 1 1 (raises-to-largest .1)
 pub raised-list : (times levels levels-after before after : List ℕ) → NoBlockLowered (accepted 16) fileB times levels levels-after before after → NoLowerBlocks (withReward fileB 1 1) times 16 levels levels-after before after
 raised-list times levels levels-after before after none = none 1 1 (raises-to-largest .1)
 
+-- with both reward rates 1 every moment is 1, so a last cell above that is one that was lowered: in an answer's block, and in the last of a list
+pub lowered-last : NoneLowered (accepted runB) fileB (replicate 4 0) (718750000000 ∷ 612500000000 ∷ 281250000000 ∷ 1000000000001 ∷ []) → ⊥
+unfolding sum largest anyAbove firsts over big bytesOf distributions withReward jumpRate rowSum uniformRate c maxReward jumpMillionths rowMean rewardShare mix nextEntry firstVectors nextVectors U mode rightward leftward weight weightSum term weighted nearest lastQuotient weightedMean moment figureOf cell cellsAfter
+lowered-last none = omega (arith, none 1 1 (raises-to-largest .1) .no-lower 3)
+
+pub lowered-block :
+    NoBlockLowered (accepted 16) fileB (1 ∷ 2 ∷ []) (replicate 2 0) (3 ∷ 4 ∷ []) (replicate 8 0) (718750000000 ∷ 612500000000 ∷ 281250000000 ∷ 175000000000 ∷ 628571428571 ∷ 476190476190 ∷ 371428571428 ∷ 1000000000001 ∷ [])
+    → ⊥
+unfolding blocks sum largest anyAbove firsts over big bytesOf distributions withReward jumpRate rowSum uniformRate c maxReward jumpMillionths rowMean rewardShare mix nextEntry firstVectors nextVectors U mode rightward leftward weight weightSum term weighted nearest lastQuotient weightedMean moment figureOf cell tailBound allowance passes? firstFrom level modelLevel levelAt blocksAfter
+lowered-block none = omega (arith, none 1 1 (raises-to-largest .1) .no-lower 7)
+
 -- raised past the largest, to 2, it lowers the moments of the first state, as F is 2 then: "raising a reward rate lowers no moment" is false without the condition
 pub past-B :
     (outcome (withReward fileB 1 2) 4 ≡ accepted runB)

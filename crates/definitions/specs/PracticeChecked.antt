@@ -1,13 +1,18 @@
 -- Document 02, S-6, checked by hand: the first draws of some seed numbers, practice files, and what stops a call.
 use Prim.Native.Nat.{ℕ, _+_}
-use mathlib.Core.List.{List, [], _∷_}
-use mathlib.Core.Path.{_≡_, refl}
+use native.Mathlib.Omega.{arith}
+use mathlib.Core.List.{List, [], _∷_, _++_}
+use mathlib.Core.Path.{_≡_, refl, ap}
+use lib.ListN.{getD, set}
 use Rattle.definitions.specs.Sums.{firsts}
-use Rattle.definitions.specs.Bytes.{bytesOf}
-use Rattle.definitions.specs.Rules.{Answer, accepted, refused, room, firstHeld}
-use Rattle.definitions.specs.Fields.{wordsOf, headed, fileOf}
+use Rattle.definitions.specs.Bytes.{big, bytesOf}
+use Rattle.definitions.specs.File.{distributions}
+use Rattle.definitions.specs.Rules.{Answer, accepted, refused, framing, room, rows, firstHeld, fileJudgement}
+use Rattle.definitions.specs.Moment.{outcome}
+use Rattle.definitions.specs.Fields.{Fields, numbersAt, wordsOf, fieldsOf, headed, fileOf}
 use Rattle.definitions.specs.Written.{written, fileFor, bytesAfter}
-use Rattle.definitions.specs.Practice.{next, stream, upper, draw, practiceFields, practiceFile, practice}
+use Rattle.definitions.specs.Practice.{next, stream, upper, draw, practiceFields, practiceFile, practice, DealtWell}
+use Rattle.definitions.specs.StartChecked.{rowOf}
 
 -- seed number 0: the first step gives 1013904223, which is 15470 × 65536 and 62303; the second 1196435762, 18256 × 65536 and 10546. Seed number
 -- 2^32 − 1 is cut in its first step: −1664525 + 1013904223 is 1012239698.
@@ -87,3 +92,21 @@ pub bytes-after-dealing :
     × (bytesAfter (practice 1 9 0 2) (7 ∷ 7 ∷ []) ≡ 7 ∷ 7 ∷ [])
 unfolding next stream upper draw firsts bytesOf wordsOf headed fileOf room firstHeld written fileFor practiceFields practiceFile practice
 bytes-after-dealing = (refl, refl)
+
+-- what is promised of the file dealt is false of one with another time, or another last rate
+pub dealt-fields : (DealtWell (accepted (set dealt1 12 5)) 2 2 1 → ⊥) × (DealtWell (accepted (set dealt1 28 0xF1)) 2 2 1 → ⊥)
+unfolding next stream upper draw firsts big distributions numbersAt fieldsOf practiceFields
+dealt-fields = (λ h. omega (arith, ap (λ (f : Fields). f .time) (h .states-fields)), λ h. omega (arith, ap (λ (f : Fields). getD (f .rates) 1 0) (h .states-fields)))
+
+-- and of one with a byte more, whose fields are the same: it is accepted neither where version 1 alone is admitted nor where both are, and has no figures,
+-- with just 4 cells or more
+abbrev pub tooLong : List ℕ
+tooLong = dealt1 ++ 0 ∷ []
+
+pub dealt-unaccepted : (DealtWell (accepted tooLong) 2 2 1 → ⊥) × (DealtWell (accepted tooLong) 2 2 1 → ⊥)
+unfolding big framing firstHeld fileJudgement
+dealt-unaccepted = (λ h. omega (arith, ap rowOf (h .accepts 1 (omega arith))), λ h. omega (arith, ap rowOf (h .accepts 2 (omega arith))))
+
+pub dealt-without-figures : (DealtWell (accepted tooLong) 2 2 1 → ⊥) × (DealtWell (accepted tooLong) 2 2 1 → ⊥)
+unfolding big framing rows firstHeld outcome
+dealt-without-figures = (λ h. omega (arith, ap rowOf (h .has-figures 4 (omega arith))), λ h. omega (arith, ap rowOf (h .has-figures 520 (omega arith))))

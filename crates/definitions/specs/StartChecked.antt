@@ -1,13 +1,14 @@
 -- Document 02, S-5, checked by hand: B with a starting distribution, what stops such a file, and files moved from one version to the other.
 use Prim.Native.Nat.{ℕ}
+use native.Mathlib.Omega.{arith}
 use mathlib.Core.List.{List, [], _∷_, _++_}
-use mathlib.Core.Path.{_≡_, refl}
-use lib.ListN.{set, replicate}
+use mathlib.Core.Path.{_≡_, refl, ap}
+use lib.ListN.{getD, set, replicate}
 use Rattle.definitions.specs.Sums.{sum, largest, anyAbove, firsts, over, blocks}
 use Rattle.definitions.specs.Bytes.{big, bytesOf}
 use Rattle.definitions.specs.File.{distributions}
 use Rattle.definitions.specs.Chain.{jumpRate, rowSum, uniformRate, c, maxReward, jumpMillionths}
-use Rattle.definitions.specs.Rules.{accepted, refused, framing, quantities, fallsUpTo, listing, jumps, room, rows, seriesRows, firstHeld, judgement, seriesJudgement}
+use Rattle.definitions.specs.Rules.{Answer, accepted, refused, framing, quantities, fallsUpTo, listing, jumps, room, rows, seriesRows, firstHeld, fileJudgement, judgement, seriesJudgement}
 use Rattle.definitions.specs.Vectors.{rowMean, rewardShare, mix, nextEntry, firstVectors, nextVectors, U, rowMeans}
 use Rattle.definitions.specs.Weights.{mode, rightward, leftward, weight, weightSum}
 use Rattle.definitions.specs.Level.{tailBound, allowance, passes?, firstFrom, level}
@@ -17,7 +18,7 @@ use Rattle.definitions.specs.Remainders.{remaindersOf}
 use Rattle.definitions.specs.Sheet.{digit, digits, places, decimal, figure, label, figureLine, figureLines, levelLine, sheetOf, lentCells, sheet, printedSheet}
 use Rattle.definitions.specs.Written.{written, fileFor, countOf, bytesAfter}
 use Rattle.definitions.specs.Fields.{numbersAt, wordsOf, fieldsOf, headed, fileOf}
-use Rattle.definitions.specs.Convert.{inVersion2, inVersion1, elsewhere, toVersion2, toVersion1}
+use Rattle.definitions.specs.Convert.{inVersion2, inVersion1, elsewhere, toVersion2, toVersion1, ThereAndBack}
 use Rattle.definitions.specs.HandChecked.{fileA, fileB, sheetB}
 
 -- B in version 2, with the weights 250,000 and 750,000
@@ -113,3 +114,30 @@ stopped-back = (refl, refl, refl, refl)
 pub bytes-after : (countOf (accepted fileA) ≡ accepted 17) × (bytesAfter (accepted (1 ∷ 2 ∷ [])) (replicate 3 7) ≡ 1 ∷ 2 ∷ 7 ∷ []) × (bytesAfter (refused 13) (replicate 3 7) ≡ replicate 3 7)
 unfolding written
 bytes-after = (refl, refl, refl)
+
+-- what is promised of a moved file, there and back, is false of one that is not accepted (time 0), has another level (tolerance 16,113,920), has other moments
+-- (the second reward 1), or does not come back (R = 1), lent just enough bytes and lent more
+
+-- the row that an answer names, 0 where it is an acceptance
+abbrev pub rowOf : {A : Type 0} → Answer A → ℕ
+rowOf (accepted a) = 0
+rowOf (refused k) = k
+
+pub moved-unaccepted : (ThereAndBack (accepted (set movedB 12 0)) fileB toVersion1 → ⊥) × (ThereAndBack (accepted (set fileB 12 0)) movedB toVersion2 → ⊥)
+unfolding sum largest anyAbove big distributions jumpRate rowSum uniformRate framing quantities jumps firstHeld fileJudgement
+moved-unaccepted = (λ h. omega (arith, ap rowOf (h .accepts)), λ h. omega (arith, ap rowOf (h .accepts)))
+
+pub moved-level : (ThereAndBack (accepted (set movedB 5 0)) fileB toVersion1 → ⊥) × (ThereAndBack (accepted (set fileB 5 0)) movedB toVersion2 → ⊥)
+unfolding sum largest big distributions jumpRate rowSum uniformRate jumpMillionths mode rightward leftward weight weightSum tailBound allowance passes? firstFrom level modelLevel
+moved-level = (λ h. omega (arith, h .same-level), λ h. omega (arith, h .same-level))
+
+pub moved-moments : (ThereAndBack (accepted (set movedB 28 1)) fileB toVersion1 → ⊥) × (ThereAndBack (accepted (set fileB 20 1)) movedB toVersion2 → ⊥)
+unfolding sum largest big distributions jumpRate rowSum uniformRate c maxReward jumpMillionths rowMean rewardShare mix nextEntry firstVectors nextVectors U mode rightward leftward weight weightSum term weighted nearest lastQuotient weightedMean moment
+moved-moments = (λ h. omega (arith, h .same-moments 3 2 1), λ h. omega (arith, h .same-moments 3 2 1))
+
+pub moved-for-good : (ThereAndBack (accepted (set movedB 4 1)) fileB toVersion1 → ⊥) × (ThereAndBack (accepted (set fileB 4 1)) movedB toVersion2 → ⊥)
+unfolding sum largest anyAbove firsts big bytesOf distributions jumpRate rowSum uniformRate framing quantities jumps room firstHeld written fileFor numbersAt wordsOf fieldsOf headed fileOf inVersion2 inVersion1 elsewhere toVersion2 toVersion1
+moved-for-good = (
+  λ h. omega (arith, ap (λ (a : Answer (List ℕ)). getD (bytesAfter a []) 4 0) (h .returns 29 (omega arith))),
+  λ h. omega (arith, ap (λ (a : Answer (List ℕ)). getD (bytesAfter a []) 4 0) (h .returns 99 (omega arith))),
+)
