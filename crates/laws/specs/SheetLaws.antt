@@ -118,7 +118,7 @@ pub cells-enough : (s : List ℕ) (cells : ℕ) → judgement s cells ≡ accept
 cells-enough s cells passed =
     let file = accepted-file s cells passed in
     judgement-in-parts s lentCells
-    ∙ rw (file-accepted s cells passed) (enough (blockSize s) lentCells (block-max s (file .model .framed) (file .model .limits .highest-max)))
+    ∙ rw (file-accepted s cells passed) (enough (blockSize s) lentCells (omega (arith, block-max s (file .model .framed) (file .model .limits .highest-max))))
 
 -- an accepted file is shorter than what is read
 short : (s : List ℕ) (cells : ℕ) → judgement s cells ≡ accepted tt → length s < readLimit
