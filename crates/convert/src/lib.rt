@@ -104,8 +104,8 @@ pub fn to_version_1(file: &[u8], out: &mut [u8]) -> Written
     ensures moved { λ o. ⌜ ThereAndBack (toVersion1 (now (file .entry)) (length (now (out .entry)))) (now (file .entry)) toVersion2 ⌝ }
 {
     let judgement = refusals::judge_file(file, 2, 2);
-    if let Judgement::Refused(row) = judgement {
-        return Written::Refused(row);
+    if let Judgement::Refused(k) = judgement {
+        return Written::Refused(k);
     }
     // Row 17 stands before row 13.
     let elsewhere = weight_elsewhere(file);

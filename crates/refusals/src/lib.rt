@@ -260,7 +260,7 @@ pub fn judge_series(file: &[u8], times: &[u32], levels: usize, cells: usize) -> 
 {
     let model = judge_model(file, 1, 2, times);
     match model {
-        Rated::Refused(row) => Judgement::Refused(row),
+        Rated::Refused(k) => Judgement::Refused(k),
         Rated::Rate(rate) => judge_times(file, rate, times, levels, cells),
     }
 }

@@ -116,8 +116,8 @@ fn shares(sizes: Sizes, rewards: &[u64; 64], same: [u64; 64]) -> [u64; 64]
     let states = sizes.states;
     let mut next = [0u64; 64];
     for i in 0..states {
-        let share = reward_share(rewards[i], same[i], sizes.largest);
-        next[i] = share.quotient;
+        let w = reward_share(rewards[i], same[i], sizes.largest);
+        next[i] = w.quotient;
     }
     next
 }

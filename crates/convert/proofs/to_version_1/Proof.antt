@@ -46,12 +46,11 @@ long-enough c =
     let args = c .before .before .before .before .before .before .before .before .before .args in
     omega (arith, ltb-false (length (args .out .now)) (length (args .file .now) - 4 * c .before .before .state-count .result) (c .if2 .left), c .before .before .state-count .ensures)
 
-stopped : tie.Need-returns
-stopped c =
-    let row = c in
-    let known = row .before .before .before .before .before in
+returns : tie.Need-returns
+returns c =
+    let known = c .before .before .before .before .before in
     let args = known .before .args in
-    let answer = refused-back (args .file .now) (length (args .out .now)) _ (sym (row .before .before .before .judge-file .ensures) ∙ ap verdict (row .before .judgement .given .1)) in
+    let answer = refused-back (args .file .now) (length (args .out .now)) _ (sym (c .before .before .before .judge-file .ensures) ∙ ap verdict (c .before .judgement .given .1)) in
     (sym (ap countOf answer), (sym (ap (λ (a : Answer (List ℕ)). bytesAfter a (args .out .now)) answer), answer-back (args .file .now) (bytes known) (length (args .out .now))))
 
 returns-2 : tie.Need-returns-2
@@ -88,7 +87,7 @@ to-version-1-spec =
     (tie.spec
     (λ c κs. search needs)
     (λ c. search needs)
-    stopped
+    returns
     (λ c. search needs)
     (λ c κs. framed c)
     (λ c κs. omega (arith, size (c .before)))

@@ -33,10 +33,9 @@ returns c =
 
 returns-2 : tie.Need-returns-2
 returns-2 c =
-    let short = c in
-    let args = short .before .before .before .before .before .args in
+    let args = c .before .before .before .before .before .args in
     let old : List ℕ = args .out .now in
-    let answer = no-room-to-deal (args .states) (args .highest) (args .seed) (length old) (passed (short .before)) (omega (arith, short .if1 .taken)) in
+    let answer = no-room-to-deal (args .states) (args .highest) (args .seed) (length old) (passed (c .before)) (omega (arith, c .if1 .taken)) in
     (sym (ap countOf answer), (sym (ap (λ (a : Answer (List ℕ)). bytesAfter a old) answer), dealt-well (args .states) (args .highest) (args .seed) (length old)))
 
 put-file-requires : tie.Need-put-file-requires
