@@ -34,3 +34,4 @@ pub mod WrittenLaws
 pub mod MovedLaws
 pub mod ConvertLaws
 pub mod PracticeLaws
+pub mod DealingLaws
