@@ -85,6 +85,10 @@ COMMANDS = [
     ("./practice 003 02 00000000000000000000001234", 0, DEALT, ""),
     ("./practice 3 2 1234 > \"$EMPTY\"/mine.model && ./calculate < \"$EMPTY\"/mine.model", 0, DEALT_SHEET, ""),
     ("./practice 1 1 0", 0, bytes.fromhex("00 0F 01 01 01 00 00 27 10 00 00 00 04 00 00 47 51"), ""),
+    ("./practice 1 1 65536", 0, bytes.fromhex("00 0F 01 01 01 00 00 27 10 00 00 00 0B 00 00 A3 FA"), ""),
+    ("./practice 1 1 70000", 0, bytes.fromhex("00 0F 01 01 01 00 00 27 10 00 00 00 06 00 00 8A C9"), ""),
+    ("./practice 1 1 2147483648", 0, bytes.fromhex("00 0F 01 01 01 00 00 27 10 00 00 00 0C 00 00 C7 51"), ""),
+    ("./practice 1 1 4294967295", 0, bytes.fromhex("00 0F 01 01 01 00 00 27 10 00 00 00 04 00 00 30 18"), ""),
     ("./practice 64 8 4294967295 | wc -c", 0, b"16397\n", ""),
     ("cd / && \"$ROOT\"/practice 3 2 1234", 0, DEALT, ""),
     ("cd tests && ../practice 3 2 1234", 0, DEALT, ""),
@@ -248,7 +252,7 @@ def rebuilt(copy):
     expect("a copy", run("./calculate < examples/B.model", copy), (0, B, ""))
     expect("a copy's file", run("./practice 3 2 1234", copy), (0, DEALT, ""))
     edit(os.path.join(copy, "crates", "dealer", "src", "main.rt"), "give M, R and a seed number", "give M, R and a seed")
-    built_anew("./practice", run("./practice", copy), (1, b"", ["practice: give M, R and a seed, as in ./practice 3 2 1234 > FILE"]), "dealer", 8)
+    built_anew("./practice", run("./practice", copy), (1, b"", ["practice: give M, R and a seed, as in ./practice 3 2 1234 > FILE"]), "dealer", 9)
     edit(os.path.join(copy, "crates", "calculator", "src", "main.rt"), "the input cannot be read", "the input is unreadable")
     built_anew("./calculate", run("./calculate < /", copy), (2, b"", ["calculator: the input is unreadable"]), "calculator", 15)
     expect("the edited program again", run("./calculate < /", copy), (2, b"", "calculator: the input is unreadable\n"))

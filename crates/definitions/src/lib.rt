@@ -1,6 +1,6 @@
 // The answers, sizes and headers that the calculator's functions share. The paper's answer for each case of an enum is defined in specs/:
 // of a Judgement in Rules.antt, of an Outcome in Moment.antt, of a Series in Series.antt, of Remainders in Remainders.antt, of Written in
-// Written.antt. The chain that stands in arrays of given Sizes is defined in Chain.antt.
+// Written.antt, of a Dealing in Dealing.antt. The chain that stands in arrays of given Sizes is defined in Chain.antt.
 
 // ONE: 10^12 ticks.
 pub const ONE: u64 = 1_000_000_000_000;
@@ -62,6 +62,14 @@ pub enum Remainders {
 pub enum Written {
     Count(usize),
     Refused(u8),
+}
+
+// What a call that deals a practice file from three texts answers: the count of bytes written, the number of the refusal, or that
+// the third text says no seed number.
+pub enum Dealing {
+    Count(usize),
+    Refused(u8),
+    NoSeed,
 }
 
 // The numbers of a chain that stands in arrays: M, the number of states; R, the highest moment; the cells of a block; E, the

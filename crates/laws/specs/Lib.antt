@@ -35,5 +35,6 @@ pub mod WrittenLaws
 pub mod MovedLaws
 pub mod ConvertLaws
 pub mod PracticeLaws
+pub mod DealingLaws
 pub mod SheetLaws
 pub mod Proved

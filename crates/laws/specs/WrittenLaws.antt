@@ -1,13 +1,12 @@
 -- What a call answers that writes a file, for any table and any file.
 use Prim.Native.Nat.{ℕ, _≤_, _<_}
-use native.Mathlib.Omega.{arith}
-use mathlib.Core.Path.{_≡_, refl, _∙_, ap}
+use mathlib.Core.Path.{_≡_, refl, _∙_}
 use mathlib.Core.List.{List, _++_}
-use lib.ListN.{length, length-append}
+use lib.ListN.{length}
 use borrow.Author.Tests.{lt-ltb, le-ltb}
-use Rattle.definitions.specs.Rules.{Answer, accepted, refused, Rows, room, firstHeld, judgedBy}
-use Rattle.definitions.specs.Written.{written, fileFor, countOf, bytesAfter}
-use Rattle.laws.specs.RuleLaws.{accepted-is-no-refusal, andThen, row-stops, row-passes, none-left, in-parts, NoneHold, none-hold, accepted-value, none-in-parts}
+use Rattle.definitions.specs.Rules.{accepted, refused, Rows, room, firstHeld, judgedBy}
+use Rattle.definitions.specs.Written.{fileFor}
+use Rattle.laws.specs.RuleLaws.{andThen, row-stops, row-passes, none-left, in-parts, NoneHold, none-hold, accepted-value, none-in-parts}
 
 module _ (table : Rows) (file : List ℕ) (lent : ℕ) where
   -- its table's refusal, or what row 13 says of the bytes that are lent
@@ -33,11 +32,3 @@ module _ (table : Rows) (file : List ℕ) (lent : ℕ) where
   pub was-written : (t : List ℕ) → fileFor table file lent ≡ accepted t → NoneHold table × (file ≡ t)
   unfolding fileFor
   was-written t e = (none-in-parts table (room (length file) lent) (none-hold (table ++ room (length file) lent) file t e) .0, accepted-value (table ++ room (length file) lent) file t e)
-
--- the count that is returned lies within what was lent
-pub count-inside : (a : Answer (List ℕ)) (n : ℕ) (old new : List ℕ) → accepted n ≡ countOf a → new ≡ bytesAfter a old → n ≤ length new
-unfolding written
-count-inside (accepted t) n old new e bytes =
-    let same : n ≡ length t = cc in
-    omega (arith, simp length-append at (ap length bytes))
-count-inside (refused k) n old new e bytes = absurd (accepted-is-no-refusal n k e)

@@ -7,7 +7,7 @@ use Prim.Native.Nat.{ℕ, _+_, _*_, _-_, _^_, _≤_, _<_}
 use native.Mathlib.Nat.{one-le-pow, pow-suc, mul-le-mul-left}
 use native.Mathlib.Numerals.{add-one}
 use native.Mathlib.Omega.{arith}
-use lib.Dec.{leb}
+use lib.Dec.{ltb, leb}
 use lib.ListN.{length, drop, getD}
 use lib.Seq.{drop-cons, drop-length}
 use borrow.Author.Tests.{lt-ltb, le-leb, lt-leb, leb-true, leb-false}
@@ -123,3 +123,10 @@ read-whole {text} {i} {value} most h all m read =
 pub no-text : (most : ℕ) (text : List ℕ) → length text ≡ 0 → numeral most text ≡ none
 unfolding numeral
 no-text most text e = rw e
+
+-- a number that is said is at most the limit
+pub at-most : (most : ℕ) (text : List ℕ) (n : ℕ) → numeral most text ≡ given n → n ≤ most
+unfolding numeral
+at-most most text n e =
+    let was = was-given (ltb 0 (length text) && allDigits text) (leb (valueOf text) most) (valueOf text) n e in
+    omega (arith, leb-true (valueOf text) most (was .1), was)
