@@ -12,7 +12,7 @@ use Rattle.definitions.specs.Vectors.{ONE, rewardShare, mix, firstVector
 use Rattle.definitions.specs.Level.{level}
 use Rattle.definitions.specs.Moment.{weightedMean, moment, modelLevel}
 
--- 1. HoldsRows of states.
+-- 1. Lists of states.
 
 -- the states below n that pass a test, highest first
 unfoldable pub falling : (ℕ → Bool) → ℕ → List ℕ

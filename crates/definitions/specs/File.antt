@@ -1,4 +1,4 @@
--- "The model file": its fields, read from its bytes. Every offset stands here and nowhere else.
+-- "The model file": its fields, read from its bytes. Every offset that is read stands here; in what order a file is written stands in Fields.
 use Prim.Native.Nat.{ℕ, _+_, _*_, _-_}
 use mathlib.Core.List.{List}
 use lib.ListN.{getD}

@@ -1,10 +1,12 @@
--- "The printed sheet", checked by hand: that of ten states, how much the program lends and reads, and an input that is longer.
+-- "The printed sheet", checked by hand: that of ten states, how much the program lends and reads, an input that is longer, and what figures denote.
 use Prim.Native.Nat.{ℕ, _+_, _*_}
 use native.Mathlib.Omega.{arith}
 use mathlib.Core.List.{List, [], _∷_, _++_}
-use mathlib.Core.Path.{_≡_, refl}
+use mathlib.Core.Bool.{Bool}
+use mathlib.Core.Path.{_≡_, refl, ap}
+use lib.Dec.{lit<}
 use lib.ListN.{getD, replicate}
-use Rattle.definitions.specs.Sums.{sum, largest, anyAbove, firsts, over}
+use Rattle.definitions.specs.Sums.{sum, largest, anyAbove, firsts, over, pick}
 use Rattle.definitions.specs.Bytes.{big}
 use Rattle.definitions.specs.File.{distributions}
 use Rattle.definitions.specs.Chain.{jumpRate, rowSum, uniformRate, c, maxReward, jumpMillionths}
@@ -13,7 +15,9 @@ use Rattle.definitions.specs.Vectors.{ONE, rowMean, rewardShare, mix, ne
 use Rattle.definitions.specs.Weights.{mode, rightward, leftward, weight, weightSum}
 use Rattle.definitions.specs.Level.{tailBound, allowance, passes?, firstFrom, level}
 use Rattle.definitions.specs.Moment.{term, weighted, nearest, lastQuotient, weightedMean, moment, figureOf, cell, modelLevel, outcome, cellsAfter}
-use Rattle.definitions.specs.Sheet.{digit, digits, places, decimal, figure, label, figureLine, figureLines, levelLine, refusedLine, sheetOf, lentCells, readLimit, sheet, printedSheet}
+use Rattle.definitions.specs.Fraction.{Fraction, ratio, whole}
+use Rattle.definitions.specs.Numeral.{allDigits, valueOf}
+use Rattle.definitions.specs.Sheet.{digit, digits, places, decimal, figure, beforePoint, afterPoint, decimalOf, Denotes, label, figureLine, figureLines, levelLine, refusedLine, sheetOf, lentCells, readLimit, sheet, printedSheet}
 
 -- ten states with the rewards 1 to 10 and no arrow, R = 1, tolerance 10,000 and time 1
 abbrev pub fileTen : List ℕ
@@ -64,3 +68,17 @@ long-number = (omega arith, omega arith)
 pub long-input : printedSheet longInput ≡ 114 ∷ 101 ∷ 102 ∷ 117 ∷ 115 ∷ 101 ∷ 100 ∷ 32 ∷ 50 ∷ 10 ∷ []
 unfolding big framing quantities jumps room rows firstHeld outcome cellsAfter digit digits places decimal refusedLine sheetOf sheet printedSheet
 long-input = refl
+
+-- what printed figures denote: 1, and B's 23/32
+pub denoted : Denotes (figure ONE) (whole 1) × Denotes (figure 718750000000) (ratio 23 32 (lit< tt))
+unfolding digit digits figure beforePoint afterPoint decimalOf allDigits valueOf
+denoted = (record { number = refl; decimals = refl; value = record { cross = refl } }, record { number = refl; decimals = refl; value = record { cross = refl } })
+
+-- with another last digit it is another number, and "0.x" denotes none
+pub denotes-another : Denotes (figure 718750000001) (ratio 23 32 (lit< tt)) → ⊥
+unfolding digit digits figure beforePoint afterPoint decimalOf allDigits valueOf
+denotes-another h = omega (arith, h .value .cross)
+
+pub denotes-none : (x : Fraction) → Denotes (48 ∷ 46 ∷ 120 ∷ []) x → ⊥
+unfolding beforePoint afterPoint allDigits
+denotes-none x h = omega (arith, ap {B = ℕ} (λ (b : Bool). pick {A = ℕ} b 1 0) (h .decimals))
