@@ -30,7 +30,7 @@ Made by `.ci/edits.py`; the gate fails where this page is not what it would writ
 refused because a fact fails: the first refusal in `target/must-fail/NAME/LABEL/.log` is either a counterexample (numbers at which all that is
 known holds and the goal fails) or two sides of a goal that differ, shown here where they are short; "as printed" stands where the prover computed neither side. "Refused in" names the module or the function whose proof
 fails, and the fact: `returns` is what the function ensures, `F-requires` what F asks of its caller, `loop-holds` and `loop-again` an invariant at the start and after a round.
-Most edits keep the code's shape. Some need an operator, a statement or a test more, as `muldiv/to_the_nearest`, where a half has to be added, `moments/levels_written_on_a_refusal`, which adds a test, or `convert/byte_written_on_a_refusal`, which adds a store; where that would move the proof's paths, the edit moves them by as much, so that the fact is what fails.
+Most edits keep the code's shape. Some need an operator, a statement or a test more, as `muldiv/to_the_nearest`, where a half has to be added, `moments/levels_written_on_a_refusal`, which adds a test, or `practice/bytes_cleared_on_a_refusal`, which adds a store; where that would move the proof's paths, the edit moves them by as much, so that the fact is what fails.
 
 Three limits. A refused law is not a false law: `one_tick_less_at_the_level`, `half_the_vector_error` and `last_level_one_less` show that the proof does not reach the tighter bound.
 And the arithmetic tactic takes a product of two unknowns as one more unknown, so that a counterexample such as `P` = 0 with `P * ZN` = 1 need not be a model.
