@@ -153,7 +153,7 @@ module _ (X ε N L : ℕ) (X-pos : 0 < X) (passes : Passes X ε N) (past : N ≤
       split (z X L)
       ∙ ap (λ (k : ℕ). sum (suc N) (z X L) + k) (sum-same (L - N) (λ j. z X L (suc N + j)) (λ j. z X L (N + 1 + j)) (λ j l. ap (z X L) (omega arith)))
 
--- past an ε-th of the weights up to N nothing is left: (1 − ε) of all weights up to L is at most those up to N
+-- where the weights past N are at most ε of those up to N, those up to N are at least 1 − ε of all
 most-weights : (ZN Zt ε : ℕ) → Zt * BILLION ≤ ε * ZN → (BILLION - ε) * (ZN + Zt) ≤ BILLION * ZN
 most-weights ZN Zt ε h =
     let b : ℕ = BILLION - ε in

@@ -43,7 +43,7 @@ unfolding allDigits digits
 all-digits x zero = refl
 all-digits x (suc p) = rw (digit-is x p) (all-digits x p)
 
--- the last p digits of x are worth x by 10^p, what is left of it
+-- the last p digits of x are worth what x leaves by 10^p
 pub digits-worth : (x p : ℕ) → valueOf (digits x p) ≡ x % 10 ^ p
 unfolding valueOf digits digit
 digits-worth x zero = sym (remainder-unique x 1 x 0 (omega arith) (omega arith))
@@ -86,7 +86,7 @@ figure-max m g r i l =
       | no h ↦ rw (figure-of-start m (modelLevel m) r i (omega (arith, h))) (omega (arith, start-close m g r (omega (arith, h)) .at-most-one .cross))
     ]
 
--- so is no cell after a run
+-- nor is a cell after a run
 cell-max : (s : List ℕ) (run : Run) (cells : List ℕ) → outcome s (length cells) ≡ accepted run → (k : ℕ) → k < blockSize s → getD (cellsAfter (accepted run) s cells) k 0 ≤ ONE
 unfolding cellsAfter cell
 cell-max s run cells e k l =
@@ -96,7 +96,7 @@ cell-max s run cells e k l =
     rw (getD-over 0 (blockSize s) (cell (modelOf s) (run .level)) cells k l, level)
     (figure-max (modelOf s) limits (k % modelOf s .highest + 1) (k / modelOf s .highest) (state-of-cell k (modelOf s .states + modelOf s .distributions) (modelOf s .highest) l))
 
--- and each figure of a sheet denotes its cell
+-- so each figure of a sheet denotes its cell
 pub sheet-denotes : (s : List ℕ) → SheetDenotes s
 sheet-denotes s = from (outcome s lentCells) refl
   where
