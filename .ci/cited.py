@@ -12,18 +12,18 @@ import sys
 
 ROOT = pathlib.Path(__file__).resolve().parent.parent
 LAW = re.compile(r"^( *)pub (?!mod |record |data )([^\s:(){}]+) :", re.M)
-USE = re.compile(r"^(?:ghost )?use [^\n]*?([\w·]+)\.\{([^}]*)\}", re.M)
+USE = re.compile(r"^(?:ghost )?use Rattle·(\w+)[^\n]*?(\w+)\.\{([^}]*)\}", re.M)
 WORD = re.compile(r"[^\s(){}.,;]+")
 
 
 def uncited(texts):
     """The laws of texts, module path to text, that nothing cites: (path, name)."""
-    brought = set()  # (module, name) of every use
+    brought = set()  # (crate, module, name) of every use
     for text in texts.values():
-        for module, names in USE.findall(text):
-            brought |= {(module, name.split(" as ")[0].strip()) for name in names.split(",")}
+        for crate, module, names in USE.findall(text):
+            brought |= {(crate, module, name.split(" as ")[0].strip()) for name in names.split(",")}
     for path, text in sorted(texts.items()):
-        module = pathlib.PurePath(path).stem
+        crate, module = pathlib.PurePath(path).parts[1], pathlib.PurePath(path).stem
         if path.endswith(".rt") or module.endswith("Checked") or module == "Numeral":
             continue
         code = re.sub(r"--[^\n]*", "", text)
@@ -31,18 +31,21 @@ def uncited(texts):
         for margin, name in LAW.findall(code):
             own = re.compile(f"^{margin}(?:pub )?{re.escape(name)}(?=[ \n])", re.M)
             used = WORD.findall(own.sub("", code)).count(name)
-            if name not in in_record and (module, name) not in brought and not used:
+            if name not in in_record and (crate, module, name) not in brought and not used:
                 yield path, name
 
 
+# law is cited from the crate a alone; lone by nothing.
 SAMPLE = {
-    "a/specs/Laws.antt": "pub lemma : ℕ\nlemma = 1\n\npub law : ℕ\nlaw = lemma\n\npub lone : ℕ\nlone = 2 -- lemma lone\n",
-    "b/specs/More.antt": "use A.specs.Laws.{law}\npub record R where\n  pub field : ℕ\n",
+    "crates/a/specs/Laws.antt": "pub lemma : ℕ\nlemma = 1\n\npub law : ℕ\nlaw = lemma\n\npub lone : ℕ\nlone = 2 -- lemma lone\n",
+    "crates/b/specs/More.antt": "use Rattle.a.specs.Laws.{law}\npub record R where\n  pub field : ℕ\n",
+    "crates/b/specs/Laws.antt": "pub law : ℕ\nlaw = 3\n",
 }
+UNCITED = [("crates/a/specs/Laws.antt", "lone"), ("crates/b/specs/Laws.antt", "law")]
 
 
 def main():
-    if list(uncited(SAMPLE)) != [("a/specs/Laws.antt", "lone")]:
+    if list(uncited(SAMPLE)) != UNCITED:
         print("cited.py reads its sample wrongly", file=sys.stderr)
         return 1
     files = [path for kind in ("specs/**/*.antt", "proofs/**/*.antt", "src/**/*.rt") for path in ROOT.glob(f"crates/*/{kind}")]
