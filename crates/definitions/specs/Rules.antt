@@ -30,7 +30,10 @@ state_row M = (4, outside 1 64 M) ∷ []
 
 -- rows 4 and 5, the dimensions: M and R
 abbrev pub dimensions : ℕ → ℕ → Rows
-dimensions M R = state_row M ++ (5, outside 1 8 R) ∷ []
+dimensions M R =
+    (4, outside 1 64 M)
+    ∷ (5, outside 1 8 R)
+    ∷ []
 
 -- what the length field of a file holds: 4 × M × M + 11, and 4 × M for each starting distribution
 abbrev pub fitting_length : List ℕ → ℕ

@@ -47,9 +47,8 @@ pub fn judge_states(states: u64) -> Judgement
 pub fn judge_dimensions(states: u64, highest: u64) -> Judgement
     ensures { verdict result ≡ judged_by (dimensions states highest) }
 {
-    let row = judge_states(states);
-    if let Judgement::Refused(k) = row {
-        return Judgement::Refused(k);
+    if outside(1, MOST_STATES, states) {
+        return Judgement::Refused(4);
     }
     if outside(1, MOST_MOMENTS, highest) {
         return Judgement::Refused(5);
