@@ -226,8 +226,13 @@ def turned(now, was, old, new, names):
                         # a parenthesis that is gone today
                         continue
                     return f"`{o[p][1]}` has no word today"
-                space = n[q][0] if q == 0 or p == 0 or o[p][0] != n[q][0] else b[its][0]
-                out.append((space, b[its][1]))
+                # parentheses that only today's line has, as in (f x).a for f x .a
+                before = its
+                while before > first and before - 1 not in to and b[before - 1][1] in "()":
+                    before -= 1
+                space = n[q][0] if q == 0 or p == 0 or o[p][0] != n[q][0] else b[before][0]
+                out.append((space, b[before][1]))
+                out += b[before + 1 : its + 1]
         elif l > k:
             spelled, _ = words(respell("".join(s + w for s, w in n[k:l]), names))
             if spelled:
