@@ -8,7 +8,7 @@ of the `old:` text in LANDED's file, lines that file up with today's, lines the 
 that `old:` has too keep today's spelling, and the others are respelled word by word: by the words that stand in their place elsewhere in the crates, in the same two texts.
 A pair that adds an import adds it to the line that imports from the Prelude, and goes if today's file imports the name already.
 Where port_moves.py has moved a statement, the pair names the file where it stands now. It says what it cannot turn; such edits are turned by hand, and named in BY_HAND,
-which it leaves alone. --list writes nothing, and prints what it would write.
+which it leaves alone. A pair of a file of proofs/ stays as it is. --list writes nothing, and prints what it would write.
 """
 
 import collections
@@ -21,7 +21,13 @@ import sys
 
 LANDED = "759ee22906aec172f33c6ad44ad96926cdd20973"
 # Edits that are turned by hand: this script leaves them alone.
-BY_HAND = set()
+BY_HAND = {
+    "moments/order_of_the_cells_lent",
+    "moments/raised_on_the_blocks_left",
+    "refusals/rows_4_and_5_swapped",
+    "vectors/share_of_the_row_itself",
+    "writing/byte_after_the_zeros",
+}
 try:
     from port_moves import EDIT_FILES
 except ImportError:
@@ -274,6 +280,11 @@ def turn(root, crate, label, names):
             old = line[5:]
         elif line.startswith("new:"):
             new = line[4:].removeprefix(" ")
+            if path.startswith("proofs/"):
+                # proofs are written anew: such a pair waits for that
+                out += (["file: " + path] if named != path else []) + ["old: " + old, line]
+                named = path
+                continue
             if path not in was:
                 was[path] = landed(root, f"crates/{crate}/{path}")
             today = EDIT_FILES.get((crate, label, path), path)
