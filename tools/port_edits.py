@@ -177,9 +177,11 @@ def place(text, part):
     return line, at - (text.rfind("\n", 0, at) + 1)
 
 
-def turned(now, was, old, new, names):
+def turned(now, was, old, new, names, antt):
     """The pair in today's spelling, or why not."""
     was, old, new = (OLD_PATH.sub(r"Rattle.\1.specs.", t) for t in (was, old, new))
+    if antt:
+        was, old, new = tight(was), tight(old), tight(new)
     at = place(was, old)
     if not at:
         return f"its old text stands in LANDED's file {was.count(old)} times"
@@ -211,7 +213,6 @@ def turned(now, was, old, new, names):
     start = begins[first] - min(lead, len(b[first][0]))
     stop = begins[last] + len(b[last][1])
     text = theirs[m][start:stop]
-    # a projection's parentheses at the ends of old, which are gone today, and those that only today has
     if "".join(text.split()) == "":
         return "nothing is left of it"
     if now.count(text) != 1:
@@ -228,9 +229,6 @@ def turned(now, was, old, new, names):
             for p, q in zip(range(i, j), range(k, l)):
                 its = to[inside[p]]
                 if its is None:
-                    if o[p][1] in "()":
-                        # a parenthesis that is gone today
-                        continue
                     return f"`{o[p][1]}` has no word today"
                 # parentheses that only today's line has, as in (f x).a for f x .a
                 before = its
@@ -248,6 +246,9 @@ def turned(now, was, old, new, names):
     made = tight(made)
     lead = len(new) - len(new.lstrip())
     made = new[:lead] + made.lstrip() + end
+    opens = [t.count("(") - t.count(")") for t in (old, new, text, made)]
+    if opens[1] - opens[0] != opens[3] - opens[2]:
+        return f"its parentheses do not fit: {made}"
     return text, made
 
 
@@ -293,7 +294,7 @@ def turn(root, crate, label, names):
                 now[today] = read(where) if os.path.isfile(where) else ""
             pair = imported(now[today], old, new, names)
             if pair is None:
-                pair = turned(now[today], was[path], old, new, names) if was[path] is not None else "no such file at LANDED"
+                pair = turned(now[today], was[path], old, new, names, path.endswith(".antt")) if was[path] is not None else "no such file at LANDED"
             if isinstance(pair, str):
                 said.append(f"{path}: old: {old}: {pair}")
                 pair = None
