@@ -12,7 +12,8 @@ use Rattle.definitions.specs.Written.{count_of}
 use Rattle.definitions.specs.Convert.{ThereAndBack}
 use Rattle.definitions.specs.Practice.{DealtWell}
 use Rattle.laws.specs.Acceptance.{length_max, accepted_model, accepted_file, accepted_series}
-use Rattle.laws.specs.MomentLaws.{level_range, outcome_accepted, run_judged}
+use Rattle.laws.specs.MomentLaws.{outcome_accepted, run_judged}
+use Rattle.laws.proofs.MomentLaws.{level_range}
 use Rattle.laws.specs.SeriesLaws.{series_judged}
 use Rattle.kuldrepso.specs.Plain.{refusals_from, plain_answer, given_or_none, meant, Tells}
 
