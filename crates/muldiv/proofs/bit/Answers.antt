@@ -2,11 +2,7 @@
 -- numbers in which 2 ^ k is not 0. Assumes nothing.
 use native.Mathlib.Omega.{arith}
 use lib.Pow.{pow_pos}
-use Rattle.muldiv.proofs.bit.Statement.{statement}
-use Rattle.muldiv.proofs.bit.Tie as tie
+use Rattle.muldiv.proofs.bit.Goals as goal
 
-returns : tie.Need-returns
+pub returns : goal.returns
 returns c = omega (arith, pow_pos c.args.k)
-
-pub bit_spec : {M : Type 1} → statement M
-bit_spec = tie.close (tie.spec (λ c. omega arith) returns)

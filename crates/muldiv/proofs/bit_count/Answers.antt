@@ -4,8 +4,7 @@ use Prim.Native.Nat.{ℕ, ◌-◌, ◌^◌, ◌<◌}
 use native.Mathlib.Omega.{arith}
 use lib.Count.{count_leading_zeros, leading_le, leading_length}
 use Rattle.muldiv.specs.MulDiv.{BitCount}
-use Rattle.muldiv.proofs.bit_count.Statement.{statement}
-use Rattle.muldiv.proofs.bit_count.Tie as tie
+use Rattle.muldiv.proofs.bit_count.Goals as goal
 
 -- the bits are those that are no leading zeros
 counted : (b n : ℕ) → b < 2 ^ 64 → n ≡ 64 - count_leading_zeros 64 b → BitCount b n
@@ -14,8 +13,8 @@ counted b n fits is_rest =
     let same : n ≡ length.0 = omega arith in
     rw same (record { above = length.2; least = length.3; most = omega arith })
 
-returns : tie.Need-returns
+pub returns : goal.returns
 returns c = counted c.args.b _ c.ranges.b.fits (omega arith)
 
-pub bit_count_spec : {M : Type 1} → statement M
-bit_count_spec = tie.close (tie.spec (λ c. omega (arith, leading_le 64 c.args.b)) returns)
+pub overflow_sub-result : goal.overflow_sub-result
+overflow_sub-result c = omega (arith, leading_le 64 c.args.b)

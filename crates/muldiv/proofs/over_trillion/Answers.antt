@@ -3,8 +3,8 @@ use Prim.Native.Nat.{ℕ, ◌+◌, ◌*◌, ◌/◌, ◌%◌, ◌^◌, ◌≤◌
 use native.Mathlib.Nat.{mul-le-mul}
 use native.Mathlib.Omega.{arith}
 use Rattle.laws.specs.Rounding.{quotient_at_most, remainder_below, division_is, divides_in_parts}
-use Rattle.muldiv.proofs.over_trillion.Statement.{statement}
-use Rattle.muldiv.proofs.over_trillion.Tie as tie
+use Rattle.muldiv.proofs.over_trillion.Goals as goal
+use Rattle.muldiv.proofs.over_trillion.Goals.{Start}
 
 abbrev MILLION : ℕ
 MILLION = 1000000
@@ -17,7 +17,7 @@ lower_max : (n : ℕ) → n % MILLION ≤ MILLION
 lower_max n = omega (arith, remainder_below n MILLION (omega arith))
 
 -- the four products of the parts
-module _ (c : tie.Start) where
+module _ (c : Start) where
   lower : c.args.a % MILLION * (c.args.b % MILLION) ≤ MILLION * MILLION
   lower = mul-le-mul (lower_max c.args.a) (lower_max c.args.b)
 
@@ -31,23 +31,35 @@ module _ (c : tie.Start) where
   upper = mul-le-mul (upper_max c.args.a (10 ^ 9) c.requires.0) (upper_max c.args.b MILLION c.requires.1)
 
 -- what the middle products leave
-left : (c : tie.Start) → (c.args.a / MILLION * (c.args.b % MILLION) + c.args.a % MILLION * (c.args.b / MILLION) + c.args.a % MILLION * (c.args.b % MILLION) / MILLION) % MILLION ≤ MILLION
+left : (c : Start) → (c.args.a / MILLION * (c.args.b % MILLION) + c.args.a % MILLION * (c.args.b / MILLION) + c.args.a % MILLION * (c.args.b % MILLION) / MILLION) % MILLION ≤ MILLION
 left c = lower_max _
 
-returns : tie.Need-returns
+pub returns : goal.returns
 returns c = division_is (c.args.a * c.args.b) (MILLION * MILLION) _ _ (omega (arith, divides_in_parts c.args.a c.args.b MILLION (omega arith)))
 
-pub over_trillion_spec : {M : Type 1} → statement M
-over_trillion_spec =
-    tie.close
-    (tie.spec
-    (λ c. omega (arith, lower c))
-    (λ c. omega (arith, middle c))
-    (λ c. omega (arith, middle_2 c))
-    (λ c. omega (arith, middle c, middle_2 c))
-    (λ c. omega (arith, lower c, middle c, middle_2 c))
-    (λ c. omega (arith, upper c))
-    (λ c. omega (arith, upper c, lower c, middle c, middle_2 c))
-    (λ c. omega (arith, left c))
-    (λ c. omega (arith, left c))
-    returns)
+pub overflow_mul-low : goal.overflow_mul-low
+overflow_mul-low c = omega (arith, lower c)
+
+pub overflow_mul-middle : goal.overflow_mul-middle
+overflow_mul-middle c = omega (arith, middle c)
+
+pub overflow_mul-middle-2 : goal.overflow_mul-middle-2
+overflow_mul-middle-2 c = omega (arith, middle_2 c)
+
+pub overflow_add-middle : goal.overflow_add-middle
+overflow_add-middle c = omega (arith, middle c, middle_2 c)
+
+pub overflow_add-middle-2 : goal.overflow_add-middle-2
+overflow_add-middle-2 c = omega (arith, lower c, middle c, middle_2 c)
+
+pub overflow_mul-result : goal.overflow_mul-result
+overflow_mul-result c = omega (arith, upper c)
+
+pub overflow_add-result : goal.overflow_add-result
+overflow_add-result c = omega (arith, upper c, lower c, middle c, middle_2 c)
+
+pub overflow_mul-result-2 : goal.overflow_mul-result-2
+overflow_mul-result-2 c = omega (arith, left c)
+
+pub overflow_add-result-2 : goal.overflow_add-result-2
+overflow_add-result-2 c = omega (arith, left c)
