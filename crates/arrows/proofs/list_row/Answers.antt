@@ -18,8 +18,8 @@ use Rattle.arrows.proofs.list_row.Goals.{After-is_added, After-row_of-row, Start
 -- M rows of M places are at most 4,096
 first_max : (c : After-row_of-row) → c.args.i * c.state_count-states.result ≤ 64 * 64
 first_max d =
-    let M = d.before.state-count.result in
-    omega (arith, place_below d.before.before.before.before.before.args.i 0 M M (omega arith) (omega arith), square_max M 64 (omega arith))
+    let M = d.state_count-states.result in
+    omega (arith, place_below d.args.i 0 M M (omega arith) (omega arith), square_max M 64 (omega arith))
 
 pub loop-j-init : goal.loop-j-init
 loop-j-init d =

@@ -34,11 +34,11 @@ module _ (d : In-loop-i) where
   -- the row's sum from the array of sums, and that E is no smaller
   sum_at : get_or start.args.sums.now i 0 ≡ row_sum m i
   sum_at =
-      ap (λ (l : List ℕ). get_or l i 0) start.requires.file_in_bounds.1.0
+      ap (λ (l : List ℕ). get_or l i 0) start.requires.sums_value
       ∙ get_d_padded m.states (row_sum m) i (omega (arith, start.requires.framed.states_max)) (omega arith)
 
   stays : get_or start.args.sums.now i 0 ≤ start.args.rate
-  stays = omega (arith, sum_at, start.requires.file_in_bounds.1.1.0, row_sum_le_rate m i (omega arith))
+  stays = omega (arith, sum_at, start.requires.rate_value.0, row_sum_le_rate m i (omega arith))
 
   -- the arrays are as long as they were
   targets_long : length d.loop-i.targets ≡ length start.args.targets.now
@@ -48,17 +48,17 @@ module _ (d : In-loop-i) where
   rates_long = ap length d.loop-i.invariant.2 ∙ length_stored (entries m) m.states _ i
 
   counts_long : length d.loop-i.counts ≡ length start.args.counts.now
-  counts_long = ap length d.loop-i.invariant.3 ∙ length_over i (number m) _ (omega (arith, start.requires.file_in_bounds.0.2))
+  counts_long = ap length d.loop-i.invariant.3 ∙ length_over i (number m) _ (omega (arith, start.requires.file_in_bounds.2))
 
 pub list_row-requires : goal.list_row-requires
 list_row-requires c =
     record {
       framed = (start (goal.at.list_row-requires c).In-loop-i).requires.framed;
       state = omega arith;
-      stays = omega (arith, sum_at (goal.at.list_row-requires c).In-loop-i, (start (goal.at.list_row-requires c).In-loop-i).requires.file_in_bounds.1.1.0);
-      stays_max = omega (arith, (start (goal.at.list_row-requires c).In-loop-i).requires.file_in_bounds.1.1.1);
-      target_room = omega (arith, targets_long (goal.at.list_row-requires c).In-loop-i, (start (goal.at.list_row-requires c).In-loop-i).requires.file_in_bounds.0.0);
-      rate_room = omega (arith, rates_long (goal.at.list_row-requires c).In-loop-i, (start (goal.at.list_row-requires c).In-loop-i).requires.file_in_bounds.0.1);
+      stays = omega (arith, sum_at (goal.at.list_row-requires c).In-loop-i, (start (goal.at.list_row-requires c).In-loop-i).requires.rate_value.0);
+      stays_max = omega (arith, (start (goal.at.list_row-requires c).In-loop-i).requires.rate_value.1);
+      target_room = omega (arith, targets_long (goal.at.list_row-requires c).In-loop-i, (start (goal.at.list_row-requires c).In-loop-i).requires.file_in_bounds.0);
+      rate_room = omega (arith, rates_long (goal.at.list_row-requires c).In-loop-i, (start (goal.at.list_row-requires c).In-loop-i).requires.file_in_bounds.1);
     }
 
 pub loop-i-preserved : goal.loop-i-preserved
@@ -66,9 +66,9 @@ loop-i-preserved c =
     let row = c.list_row in
     let turn = c.loop-i in (
       omega arith,
-      row.ensures.1.0 ∙ ap (λ (l : List ℕ). sets l (i (goal.at.loop-i-preserved c).In-loop-i * (m (goal.at.loop-i-preserved c).In-loop-i).states) (added_states (m (goal.at.loop-i-preserved c).In-loop-i) (i (goal.at.loop-i-preserved c).In-loop-i))) turn.invariant.1 ∙ stored_more (added_states (m (goal.at.loop-i-preserved c).In-loop-i)) (m (goal.at.loop-i-preserved c).In-loop-i).states _ (i (goal.at.loop-i-preserved c).In-loop-i),
-      row.ensures.1.1 ∙ ap (λ (l : List ℕ). sets l (i (goal.at.loop-i-preserved c).In-loop-i * (m (goal.at.loop-i-preserved c).In-loop-i).states) (entries (m (goal.at.loop-i-preserved c).In-loop-i) (i (goal.at.loop-i-preserved c).In-loop-i))) turn.invariant.2 ∙ stored_more (entries (m (goal.at.loop-i-preserved c).In-loop-i)) (m (goal.at.loop-i-preserved c).In-loop-i).states _ (i (goal.at.loop-i-preserved c).In-loop-i),
-      over_store (i (goal.at.loop-i-preserved c).In-loop-i) (number (m (goal.at.loop-i-preserved c).In-loop-i)) _ turn.counts _ (omega (arith, (start (goal.at.loop-i-preserved c).In-loop-i).requires.file_in_bounds.0.2)) turn.invariant.3 row.ensures.0,
+      row.ensures.targets ∙ ap (λ (l : List ℕ). sets l (i (goal.at.loop-i-preserved c).In-loop-i * (m (goal.at.loop-i-preserved c).In-loop-i).states) (added_states (m (goal.at.loop-i-preserved c).In-loop-i) (i (goal.at.loop-i-preserved c).In-loop-i))) turn.invariant.1 ∙ stored_more (added_states (m (goal.at.loop-i-preserved c).In-loop-i)) (m (goal.at.loop-i-preserved c).In-loop-i).states _ (i (goal.at.loop-i-preserved c).In-loop-i),
+      row.ensures.rates ∙ ap (λ (l : List ℕ). sets l (i (goal.at.loop-i-preserved c).In-loop-i * (m (goal.at.loop-i-preserved c).In-loop-i).states) (entries (m (goal.at.loop-i-preserved c).In-loop-i) (i (goal.at.loop-i-preserved c).In-loop-i))) turn.invariant.2 ∙ stored_more (entries (m (goal.at.loop-i-preserved c).In-loop-i)) (m (goal.at.loop-i-preserved c).In-loop-i).states _ (i (goal.at.loop-i-preserved c).In-loop-i),
+      over_store (i (goal.at.loop-i-preserved c).In-loop-i) (number (m (goal.at.loop-i-preserved c).In-loop-i)) _ turn.counts _ (omega (arith, (start (goal.at.loop-i-preserved c).In-loop-i).requires.file_in_bounds.2)) turn.invariant.3 row.ensures.count,
     )
 
 -- past the loop all rows are listed
@@ -100,14 +100,14 @@ returns d = record {
   rates = in_rates d;
   counts = in_counts d;
   shown = rows_shown (file d) (listed d.loop-i.targets d.loop-i.rates d.loop-i.counts)
-      (rows_listed (file d) (begin d).args.targets.now (begin d).args.rates.now (begin d).args.counts.now _ _ _ (begin d).requires.file_in_bounds.0.0 (begin d).requires.file_in_bounds.0.1 (in_targets d) (in_rates d) (in_counts d));
+      (rows_listed (file d) (begin d).args.targets.now (begin d).args.rates.now (begin d).args.counts.now _ _ _ (begin d).requires.file_in_bounds.0 (begin d).requires.file_in_bounds.1 (in_targets d) (in_rates d) (in_counts d));
 }
 
 pub overflow_sub-rate : goal.overflow_sub-rate
 overflow_sub-rate c = stays (goal.at.overflow_sub-rate c).In-loop-i
 
 pub bounds-counts-i : goal.bounds-counts-i
-bounds-counts-i c = omega (arith, counts_long (goal.at.bounds-counts-i c).In-loop-i, (start (goal.at.bounds-counts-i c).In-loop-i).requires.file_in_bounds.0.2)
+bounds-counts-i c = omega (arith, counts_long (goal.at.bounds-counts-i c).In-loop-i, (start (goal.at.bounds-counts-i c).In-loop-i).requires.file_in_bounds.2)
 
 pub shape_of-targets : goal.shape_of-targets
 shape_of-targets c = same_targets c
@@ -116,4 +116,4 @@ pub shape_of-rates : goal.shape_of-rates
 shape_of-rates c = ap length (in_rates c) ∙ length_stored (entries (file c)) (file c).states _ (file c).states
 
 pub shape_of-counts : goal.shape_of-counts
-shape_of-counts c = ap length (in_counts c) ∙ length_over (file c).states (number (file c)) _ (begin c).requires.file_in_bounds.0.2
+shape_of-counts c = ap length (in_counts c) ∙ length_over (file c).states (number (file c)) _ (begin c).requires.file_in_bounds.2
