@@ -43,9 +43,9 @@ module _ (b : After-slice_known-3-1) where
   sums n l = part_sums ch start.args.sizes.block start.args.levels.now start.args.weights.now start.args.sizes.highest n l
 
   abbrev first : List ℕ
-  first = b.add_to_blocks.last.1.1.1.1.1.0
+  first = b.add_to_blocks.new.cells
 
-  table : b.first_table.last.1.1.0 ≡ table_of ch start.args.sizes.highest 0
+  table : b.first_table.new.table ≡ table_of ch start.args.sizes.highest 0
   table = b.first_table.ensures (listed start.args.targets.now start.args.rates.now start.args.counts.now)
 
   begun : first ≡ sums 1 start.args.cells.now

@@ -15,11 +15,11 @@ module _ (d : After-truncate_each-largest) where
   start = (goal.at.After-truncate_each-largest d).Start
 
   -- there is a level and a total for each X
-  levels_held : length start.args.xs.now ≤ length d.truncate_each-largest.last.1.1.0
-  levels_held = omega (arith, start.requires.xs_in_bounds.1, d.truncate_each-largest.kept.1.1.0)
+  levels_held : length start.args.xs.now ≤ length d.truncate_each-largest.new.levels
+  levels_held = omega (arith, start.requires.xs_in_bounds.1, d.truncate_each-largest.auto.levels)
 
-  totals_held : length start.args.xs.now ≤ length d.truncate_each-largest.last.1.1.1.0
-  totals_held = omega (arith, start.requires.solvable.truncatable.count_max, d.truncate_each-largest.kept.1.1.1.0)
+  totals_held : length start.args.xs.now ≤ length d.truncate_each-largest.new.totals
+  totals_held = omega (arith, start.requires.solvable.truncatable.count_max, d.truncate_each-largest.auto.totals)
 
 pub accumulate-taken-requires : goal.accumulate-taken-requires
 accumulate-taken-requires c =

@@ -56,7 +56,7 @@ loop-k-preserved c =
       row_back (weight_row xs ε) LEVELS k (entries (goal.at.loop-k-preserved c).In-loop-k) (level_of xs ε k + 1) (weight (get_or xs k 0)) _ c.loop-k.weights _ inv.4 refl (omega (arith, row_room (goal.at.loop-k-preserved c).In-loop-k, held)) (omega (arith, whole (goal.at.loop-k-preserved c).In-loop-k, held)) cut.weights,
       simp length-set inv.5,
       simp length-set inv.6,
-      same_len_mid (k * LEVELS) (entries (goal.at.loop-k-preserved c).In-loop-k) c.loop-k.weights c.truncate-cut.new.1.1.0 c.truncate-cut.auto.1.1.0 ∙ inv.7,
+      same_len_mid (k * LEVELS) (entries (goal.at.loop-k-preserved c).In-loop-k) c.loop-k.weights c.truncate-cut.new.weights c.truncate-cut.auto.weights ∙ inv.7,
     )
 
 pub returns : goal.returns

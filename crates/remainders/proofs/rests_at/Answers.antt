@@ -32,10 +32,10 @@ module _ (d : After-next_table) where
   ch = arrays start.args.sizes (listed start.args.targets.now start.args.rates.now start.args.counts.now) start.args.rewards.now
 
   abbrev before : List ℕ
-  before = get_or d.table_at.last.1.1.1.1.1.1.0 start.args.r []
+  before = get_or d.table_at.new.table start.args.r []
 
   abbrev same : List ℕ
-  same = get_or d.next_table.last.1.1.1.1.1.1.0 (start.args.r - 1) []
+  same = get_or d.next_table.new.table (start.args.r - 1) []
 
   is_before : before ≡ vector ch (start.args.n - 1) start.args.r
   is_before =

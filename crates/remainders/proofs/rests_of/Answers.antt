@@ -36,7 +36,7 @@ module _ (c : After-rewards-1) where
   abbrev rows : Listing
   rows =
       let last = c.list_rows.new in
-      listed last.1.1.1.0 last.1.1.1.1.0 last.1.1.1.1.1.0
+      listed last.targets last.rates last.counts
 
   read : Held m start.args.sizes rows c.rewards_of-rewards.result
   read =
