@@ -85,7 +85,7 @@ loop-k-preserved c =
       (next_cell c).0,
       (next_cell c).1,
       (next_cell c).2,
-      over_store k _ begin.args.cells.now _ _ (omega (arith, begin.pre.enough)) (turn (goal.at.loop-k-preserved c).After-term).loop-k.invariant.5 (ap₂ ◌+◌ (standing (goal.at.loop-k-preserved c).After-term) (is_term (goal.at.loop-k-preserved c).After-term)),
+      over_store k _ begin.args.cells.now _ _ (omega (arith, begin.requires.enough)) (turn (goal.at.loop-k-preserved c).After-term).loop-k.invariant.5 (ap₂ ◌+◌ (standing (goal.at.loop-k-preserved c).After-term) (is_term (goal.at.loop-k-preserved c).After-term)),
       simp length-set (turn (goal.at.loop-k-preserved c).After-term).loop-k.invariant.6,
     )
 
