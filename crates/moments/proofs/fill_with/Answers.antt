@@ -32,7 +32,13 @@ module _ (d : After-sizes_of-sizes) where
 pub list_rows-requires : goal.list_rows-requires
 list_rows-requires c =
     let given = (start (goal.at.list_rows-requires c).After-sizes_of-sizes).requires in
-    (given.0.framed, ((given.1.0, given.1.1, given.0.framed.states_max), (c.row_sums-sums.ensures, (rate_read (goal.at.list_rows-requires c).After-sizes_of-sizes, rate_small (goal.at.list_rows-requires c).After-sizes_of-sizes))))
+    let framed = given.accepted_series.framed in
+    record {
+      framed = framed;
+      file_in_bounds = (given.file_in_bounds.0, given.file_in_bounds.1, framed.states_max);
+      sums_value = c.row_sums-sums.ensures;
+      rate_value = (rate_read (goal.at.list_rows-requires c).After-sizes_of-sizes, rate_small (goal.at.list_rows-requires c).After-sizes_of-sizes);
+    }
 
 -- what was read is the file's model and the list's X
 module _ (d : After-write_jumps) where
@@ -50,7 +56,7 @@ module _ (d : After-write_jumps) where
 
   abbrev rows : Listing
   rows =
-      let last = d.list_rows.last in
+      let last = d.list_rows.new in
       listed last.targets last.rates last.counts
 
   read : (ε : ℕ) → ε ≡ (model_of (start sized).args.file.now).tolerance → ReadAs (model_of (start sized).args.file.now) times sized.sizes_of-sizes.result rows d.rewards_of-rewards.result xs ε
@@ -71,7 +77,12 @@ pub solve-taken-requires : goal.solve-taken-requires
 solve-taken-requires c =
     let begin = start (sized (goal.at.solve-taken-requires c).After-write_jumps) in
     let r = read (goal.at.solve-taken-requires c).After-write_jumps _ c.tolerance-tolerance.ensures in
-    (solvable begin.args.file.now (times (goal.at.solve-taken-requires c).After-write_jumps) _ _ begin.pre.0 _ _ _ _ _ r, (rw r.count begin.pre.0.level_room, block_room begin.args.file.now (times (goal.at.solve-taken-requires c).After-write_jumps) _ _ begin.pre.0 _ _ _ _ _ r))
+    let at = times (goal.at.solve-taken-requires c).After-write_jumps in
+    let series = begin.requires.accepted_series in
+    record {
+      solvable = solvable begin.args.file.now at _ _ series _ _ _ _ _ r;
+      xs_in_bounds = (rw r.count series.level_room, block_room begin.args.file.now at _ _ series _ _ _ _ _ r);
+    }
 
 -- past the solution
 module _ (S : After-solve-taken) where
@@ -82,7 +93,7 @@ module _ (S : After-solve-taken) where
   begin = start (sized d)
 
   abbrev ε : ℕ
-  ε = S.before.before.before.before.before.before.before.before.tolerance.result
+  ε = S.tolerance-tolerance.result
 
   r : ReadAs (model_of begin.args.file.now) (times d) (sized d).sizes_of-sizes.result (rows d) d.rewards_of-rewards.result (xs d) ε
   r = read d ε S.tolerance-tolerance.ensures
@@ -100,8 +111,8 @@ returns c =
     c.put_starts.ensures
     ∙ ap (λ (b : ℕ). started (model_of (begin (goal.at.returns c).After-solve-taken).args.file.now) b (length (times (d (goal.at.returns c).After-solve-taken))) c.solve-taken.new.cells) same
     ∙ blocks_are (begin (goal.at.returns c).After-solve-taken).args.file.now (times (d (goal.at.returns c).After-solve-taken)) _ _ (begin (goal.at.returns c).After-solve-taken).requires.accepted_series _ _ _ _ _ (r (goal.at.returns c).After-solve-taken) (begin (goal.at.returns c).After-solve-taken).args.cells.now (begin (goal.at.returns c).After-solve-taken).requires.accepted_series.block_room _ c.solve-taken.ensures.cells _ in record {
-      targets = listed_rows.0;
-      rates = listed_rows.1.0;
+      targets = listed_rows.targets;
+      rates = listed_rows.rates;
       levels = c.solve-taken.ensures.levels ∙ levels_are (begin (goal.at.returns c).After-solve-taken).args.file.now (times (d (goal.at.returns c).After-solve-taken)) _ _ (begin (goal.at.returns c).After-solve-taken).requires.accepted_series _ _ _ _ _ (r (goal.at.returns c).After-solve-taken) _ _;
       cells = cells;
       means = c.solve-taken.ensures.taken ∙ counted (begin (goal.at.returns c).After-solve-taken).args.file.now (times (d (goal.at.returns c).After-solve-taken)) _ _ (begin (goal.at.returns c).After-solve-taken).requires.accepted_series _ _ _ _ _ (r (goal.at.returns c).After-solve-taken);
