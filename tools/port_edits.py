@@ -8,7 +8,8 @@ of the `old:` text in LANDED's file, lines that file up with today's, lines the 
 that `old:` has too keep today's spelling, and the others are respelled word by word: by the words that stand in their place elsewhere in the crates, in the same two texts.
 A pair that adds an import adds it to the line that imports from the Prelude, and goes if today's file imports the name already.
 Where port_moves.py has moved a statement, the pair names the file where it stands now. It says what it cannot turn; such edits are turned by hand, and named in BY_HAND,
-which it leaves alone. A pair of a file of proofs/ stays as it is. --list writes nothing, and prints what it would write.
+which it leaves alone. A pair of a file of
+proofs/ stays as it is, and goes where that file is gone. --list writes nothing, and prints what it would write.
 """
 
 import collections
@@ -284,7 +285,9 @@ def turn(root, crate, label, names):
         elif line.startswith("new:"):
             new = line[4:].removeprefix(" ")
             if path.startswith("proofs/"):
-                # proofs are written anew: such a pair waits for that
+                # it moves what a proof's walk of the code names: it waits while that proof stands, and goes with it
+                if not os.path.exists(os.path.join(root, "crates", crate, path)):
+                    continue
                 out += (["file: " + path] if named != path else []) + ["old: " + old, line]
                 named = path
                 continue
