@@ -46,6 +46,9 @@ MOVES = {
         "VectorLaws": {name: "VectorLaws" for name in ["next_entry_falls", "U_falls"]},
         "WeightError": {name: "WeightError" for name in ["exact_low", "exact_high"]},
     },
+    "kuldrepso": {
+        "PlainLaws": {name: "PlainLaws" for name in ["outcome_told", "bound_meant", "moved_told", "dealt_told"]},
+    },
 }
 # By crate, edit and the file that it changed: the file where the edited statement stands now.
 EDIT_FILES = {
