@@ -38,8 +38,7 @@ pub returns-in-Refused : goal.returns-in-Refused
 unfolding sheet_of
 returns-in-Refused c =
     let s = c.args.file.now in
-    let refusal = c.outcome-1.given in
-    refused_sheet s refusal.0.0 c.write_sheet.ensures (omega arith) (sym (ap answer_of refusal.1) ∙ c.calculate-outcome.ensures.outcome)
+    refused_sheet s c.in-Refused.rule c.write_sheet.ensures (omega arith) (sym (ap answer_of c.in-Refused.is) ∙ c.calculate-outcome.ensures.outcome)
 
 pub returns-in-Solved : goal.returns-in-Solved
 unfolding sheet_of
