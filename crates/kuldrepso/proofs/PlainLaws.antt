@@ -1,21 +1,13 @@
 -- The plain answer of a call says what its outcome says: of a run, of a move and of dealing, whose numbers rest on the largest that an acceptance says.
-use Rattle.std.specs.Prelude.{ℕ, ◌+◌, ◌≤◌, ◌<◌, ◌≡◌, refl, List, length}
-use Rattle.std.proofs.Common.{arith, sym, ◌∙◌, ap, subst, lt-ltb, le-ltb}
-use Rattle.definitions.specs.declared.Rests.{Rests}
+use Rattle.std.specs.Prelude.{ℕ, ◌≡◌, List}
+use Rattle.std.proofs.Common.{arith, sym, subst}
 use Rattle.definitions.specs.declared.Run.{Run}
-use Rattle.definitions.specs.Chain.{model_of}
-use Rattle.definitions.specs.Rules.{Answer, accepted, refused, saying, file_judgement}
-use Rattle.definitions.specs.Moment.{model_level, run_of, outcome, LevelBounded}
-use Rattle.definitions.specs.Series.{series_outcome}
-use Rattle.definitions.specs.Maybe.{Maybe, none, given}
+use Rattle.definitions.specs.Rules.{Answer, saying}
+use Rattle.definitions.specs.Moment.{outcome, LevelBounded}
 use Rattle.definitions.specs.Written.{count_of}
 use Rattle.definitions.specs.Convert.{ThereAndBack}
 use Rattle.definitions.specs.Practice.{DealtWell}
-use Rattle.laws.specs.Acceptance.{length_max, accepted_model, accepted_file, accepted_series}
-use Rattle.laws.specs.MomentLaws.{outcome_accepted, run_judged}
-use Rattle.laws.proofs.MomentLaws.{level_range}
-use Rattle.laws.specs.SeriesLaws.{series_judged}
-use Rattle.kuldrepso.specs.Plain.{refusals_from, plain_answer, given_or_none, meant, Tells}
+use Rattle.kuldrepso.specs.Plain.{plain_answer, meant, Tells}
 use Rattle.kuldrepso.specs.PlainLaws.{telling, level, outcome_meant, written_meant}
 
 pub outcome_told : (s : List ℕ) (cells : ℕ) (a : Answer Run) → outcome s cells ≡ a → (r : ℕ) → r ≡ plain_answer (saying level a) → Tells r (saying level a)

@@ -1,16 +1,14 @@
 -- The plain answer of a call says what its outcome says: whether it accepts, and the number.
 use Rattle.std.specs.Prelude.{ℕ, ◌+◌, ◌≤◌, ◌<◌, ◌≡◌, refl, List, length}
-use Rattle.std.proofs.Common.{arith, sym, ◌∙◌, ap, subst, lt-ltb, le-ltb}
+use Rattle.std.proofs.Common.{arith, sym, ◌∙◌, ap, lt-ltb, le-ltb}
 use Rattle.definitions.specs.declared.Rests.{Rests}
 use Rattle.definitions.specs.declared.Run.{Run}
 use Rattle.definitions.specs.Chain.{model_of}
 use Rattle.definitions.specs.Rules.{Answer, accepted, refused, saying, file_judgement}
-use Rattle.definitions.specs.Moment.{model_level, run_of, outcome, LevelBounded}
+use Rattle.definitions.specs.Moment.{model_level, run_of, outcome}
 use Rattle.definitions.specs.Series.{series_outcome}
 use Rattle.definitions.specs.Maybe.{Maybe, none, given}
 use Rattle.definitions.specs.Written.{count_of}
-use Rattle.definitions.specs.Convert.{ThereAndBack}
-use Rattle.definitions.specs.Practice.{DealtWell}
 use Rattle.laws.specs.Acceptance.{length_max, accepted_model, accepted_file, accepted_series}
 use Rattle.laws.specs.MomentLaws.{outcome_accepted, run_judged}
 use Rattle.laws.proofs.MomentLaws.{level_range}
