@@ -25,6 +25,7 @@ LANDED = "759ee22906aec172f33c6ad44ad96926cdd20973"
 BY_HAND = {
     "laws/half_the_vector_error",
     "laws/raised_past_the_largest",
+    "means/one_figure_per_r",
     "moments/order_of_the_cells_lent",
     "moments/raised_on_the_blocks_left",
     "refusals/rows_4_and_5_swapped",
