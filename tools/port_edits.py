@@ -33,6 +33,7 @@ BY_HAND = {
     "reader/version_1_starts_too",
     "refusals/first_time_0_passes",
     "refusals/rows_4_and_5_swapped",
+    "report/bytes_past_the_count",
     "vectors/share_of_the_row_itself",
     "writing/byte_after_the_zeros",
 }
