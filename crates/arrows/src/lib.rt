@@ -3,6 +3,8 @@
 //
 // Row i has M places, from i * M on. In the first of them stand the states that its mean adds, highest first, each with its
 // entry of c: the rate, and on the diagonal E less the row's sum.
+#![tactic(auto)]
+
 ghost use Rattle.std.specs.Prelude.{◌≡◌, ◌||◌, map, ◌*◌, ◌≤◌, ◌<◌, ◌^◌, eqb, ltb, length};
 ghost use Rattle.std.proofs.lemmas.List.Edits.{sets};
 ghost use Rattle.definitions.specs.Sums.{over, rows_stored};

@@ -2,6 +2,8 @@
 // on state 1, and such a version 2 file back to version 1.
 //
 // The moved file is written at the start of what is lent. A refusal writes nothing.
+#![tactic(auto)]
+
 ghost use Rattle.std.specs.Prelude.{◌≡◌, [], ◌∷◌, ◌++◌, ◌+◌, ◌-◌, ◌*◌, ◌≤◌, length, take, drop, replicate};
 ghost use Rattle.definitions.specs.Sums.{any_above};
 ghost use Rattle.definitions.specs.Bytes.{bytes_of};

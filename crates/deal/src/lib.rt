@@ -1,4 +1,6 @@
 // A practice file from three texts, those of M, R and a seed number: what the program answers its arguments.
+#![tactic(auto)]
+
 ghost use Rattle.std.specs.Prelude.{◌≡◌};
 ghost use Rattle.definitions.specs.Maybe.{none, given};
 ghost use Rattle.definitions.specs.Rules.{saying, dimensions, judged_by};

@@ -1,6 +1,7 @@
 // The answers, sizes and headers that the calculator's functions share. The paper's answer for each case of an enum is defined in specs/:
 // of a Judgement in Rules.antt, of an Outcome in Moment.antt, of a Series in Series.antt, of Remainders in Remainders.antt, of Written in
 // Written.antt, of a Dealing in Dealing.antt, of a Reading in Stays.antt, of a Logged in Log.antt. The chain that stands in arrays of given Sizes is defined in Chain.antt.
+#![tactic(auto)]
 
 // ONE: 10^12 ticks.
 pub const ONE: u64 = 1_000_000_000_000;

@@ -1,6 +1,8 @@
 // The calls for C and Rust: `./build kuldrepso` puts them into a static library, and include/kuldrepso.h declares them.
 //
 // C knows no enum of Rattle's, so an answer goes out as one plain number. A slice comes as a pointer and a length.
+#![tactic(auto)]
+
 ghost use Rattle.std.specs.Prelude.{◌≡◌, length};
 ghost use Rattle.definitions.specs.Rules.{saying};
 ghost use Rattle.definitions.specs.Moment.{outcome, cells_after, count_after, LevelBounded};

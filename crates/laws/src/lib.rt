@@ -1,1 +1,2 @@
 // Theorems about the definitions stand in specs/. This crate has no code.
+#![tactic(auto)]

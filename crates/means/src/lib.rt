@@ -3,6 +3,8 @@
 // cells of a block past the moments are 0.
 //
 // The sums A stand in the cells until they are divided. The weights of X number k are row k, LEVELS entries long.
+#![tactic(auto)]
+
 ghost use Rattle.std.specs.Prelude.{◌≡◌, max, ◌+◌, ◌*◌, ◌%◌, ◌^◌, ◌<◌, ◌≤◌, length, get_or};
 ghost use Rattle.definitions.specs.Sums.{largest, over, blocks};
 ghost use Rattle.definitions.specs.Division.{Divides, Rounds};

@@ -1,5 +1,7 @@
 // The moments of the accumulated reward: a file in, the level and the moments out, for its own time or for a list of times,
 // and where the file holds a starting distribution, the start figures. The row means taken on the way are counted.
+#![tactic(auto)]
+
 ghost use Rattle.std.specs.Prelude.{map, ◌≡◌, ◌*◌, ◌^◌, ◌<◌, ◌≤◌, length, get_or};
 ghost use Rattle.definitions.specs.Sums.{over, rows_stored};
 ghost use Rattle.definitions.specs.File.{state_count};

@@ -4,6 +4,8 @@
 // b from the highest down, doubles what it has at each, adds a where the bit is set, and takes c out. So that
 // its quotient stays at most b, a is first split into (a / c) * c + a % c, and only a % c goes that way. For
 // c = 10^12 and limited factors, `over_trillion` takes the product in parts.
+#![tactic(auto)]
+
 ghost use Rattle.std.specs.Prelude.{◌≡◌, ◌+◌, ◌*◌, ◌/◌, ◌%◌, ◌^◌, ◌<◌, ◌≤◌};
 ghost use Rattle.definitions.specs.Division.{division};
 ghost use Rattle.muldiv.specs.MulDiv.{divided_answer, divided_of, fitted, Scalable, BitCount};

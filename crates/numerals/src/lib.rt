@@ -1,6 +1,8 @@
 // Whole numbers read from a text in decimal.
 //
 // Any slice of bytes and any limit will do. What a text says is defined in Numeral.antt of the crate definitions.
+#![tactic(auto)]
+
 ghost use Rattle.std.specs.Prelude.{◌≡◌};
 ghost use Rattle.definitions.specs.Numeral.{numeral};
 ghost use Rattle.numerals.specs.Answer.{numeral_answer};

@@ -3,6 +3,8 @@
 //
 // m is q rounded down. Weights are whole numbers in units of 10^-15: w(m) is 10^15, and each step
 // away from m is one multiplication and one division, rounded down.
+#![tactic(auto)]
+
 ghost use Rattle.std.specs.Prelude.{◌≡◌, ◌+◌, ◌-◌, ◌*◌, ◌/◌, ◌%◌, ◌^◌, ◌≤◌, ◌<◌, length};
 ghost use Rattle.definitions.specs.Sums.{over};
 ghost use Rattle.definitions.specs.Division.{Divides};

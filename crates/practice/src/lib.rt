@@ -2,6 +2,8 @@
 //
 // The same M, R and seed number deal the same file. It is written at the start of what is lent, and a refusal
 // writes nothing.
+#![tactic(auto)]
+
 ghost use Rattle.std.specs.Prelude.{◌≡◌, ◌+◌, ◌*◌, ◌%◌, ◌^◌, ◌≤◌, length};
 ghost use Rattle.definitions.specs.Sums.{firsts};
 ghost use Rattle.definitions.specs.Fields.{words_of};

@@ -3,6 +3,8 @@
 // Document 01 counts bytes from 0 and numbers are big-endian. The header's fields ask for its 13 bytes;
 // the functions past it ask that the file is framed (`Framed` in the crate laws): M is 1 to 64, and the
 // file is as long as M and its version say. What stops a file is judged in the crate refusals.
+#![tactic(auto)]
+
 ghost use Rattle.std.specs.Prelude.{◌≡◌, max, ◌+◌, ◌-◌, ◌*◌, ◌≤◌, ◌<◌, ◌^◌, eqb, length, drop, get_or};
 ghost use Rattle.definitions.specs.Sums.{sum, largest, pick};
 ghost use Rattle.definitions.specs.Bytes.{big};

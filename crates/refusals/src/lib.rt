@@ -3,6 +3,8 @@
 //
 // A file is a slice of any length, and nothing is asked of it. One that is accepted is framed (`Framed` in
 // the crate laws), so that the crate reader can read what it states.
+#![tactic(auto)]
+
 ghost use Rattle.std.specs.Prelude.{◌≡◌, ◌||◌, ◌++◌, ◌-◌, ◌*◌, ◌≤◌, ◌<◌, ◌^◌, eqb, length};
 ghost use Rattle.definitions.specs.File.{state_count, highest_moment, time_field};
 ghost use Rattle.definitions.specs.Chain.{model_of, uniform_rate};

@@ -1,4 +1,6 @@
 // What the three divisions of one U(n,r) leave over, for worked solutions: of V, by E; of W, by F; of U, by n + r.
+#![tactic(auto)]
+
 ghost use Rattle.std.specs.Prelude.{◌≡◌, ◌||◌, ◌-◌};
 ghost use Rattle.definitions.specs.Chain.{model_of, chain_of, uniform_rate, listed, arrays, padded, row_sum, sizes_of};
 ghost use Rattle.definitions.specs.Rules.{accepted, outside};

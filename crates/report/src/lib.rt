@@ -1,4 +1,6 @@
 // From the bytes on standard input to the bytes of the printed sheet.
+#![tactic(auto)]
+
 ghost use Rattle.std.specs.Prelude.{List, ℕ, take};
 ghost use Rattle.definitions.specs.Sheet.{SheetDenotes, sheet, printed_sheet};
 ghost use Rattle.writing.specs.Printed.{Printed};

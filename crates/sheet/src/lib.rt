@@ -2,6 +2,8 @@
 //
 // Each writer below stores its text from `at` on, or from the buffer's start, and returns the place
 // after it. Its contract names the text and how long it may be, and says that no other byte changes.
+#![tactic(auto)]
+
 ghost use Rattle.std.specs.Prelude.{◌≡◌, [], ◌∷◌, ◌++◌, ◌+◌, ◌*◌, ◌^◌, ◌<◌, ◌≤◌, length};
 ghost use Rattle.definitions.specs.Moment.{answer_of};
 ghost use Rattle.definitions.specs.Sheet.{digit, digits, places, decimal, figure, label, figure_lines, word_line, sheet_of};

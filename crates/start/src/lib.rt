@@ -3,6 +3,8 @@
 //
 // Moments stand in blocks of cells, cell i * R + r of a block being the moment r + 1 of state i. The R start figures follow
 // the M * R moments, as those of one more state.
+#![tactic(auto)]
+
 ghost use Rattle.std.specs.Prelude.{◌≡◌, ◌+◌, ◌*◌, ◌%◌, ◌≤◌, ◌<◌, length, get_or};
 ghost use Rattle.definitions.specs.Sums.{over, blocks};
 ghost use Rattle.definitions.specs.Division.{Divides};

@@ -2,6 +2,8 @@
 //
 // A record goes in by value, and the next one comes back. Its fields are closed to other crates, so that every record comes from `start` through
 // `stay`, taken or refused: that is what `Reached` asks of a caller.
+#![tactic(auto)]
+
 ghost use Rattle.std.specs.Prelude.{◌≡◌, ◌<◌, ◌≤◌};
 ghost use Rattle.definitions.specs.Rules.{verdict, judged_by};
 ghost use Rattle.definitions.specs.Stays.{stay_of, no_pair, start_rows, pair_rows, stay_rows, rate_of};

@@ -3,6 +3,8 @@
 // The rows of c are lent, M places for each, row i from i * M on: in a place stand a state and its entry of c. A row uses the
 // first of its places, counts[i] of them, for the states with a rate above 0 and the diagonal, highest first (crate arrows). A vector goes in
 // by value and the new one comes back: no vector changes while it is read.
+#![tactic(auto)]
+
 ghost use Rattle.std.specs.Prelude.{◌≡◌, List, ℕ, ◌+◌, ◌*◌, ◌-◌, ◌^◌, ◌<◌, ◌≤◌, get_or};
 ghost use Rattle.definitions.specs.Division.{division};
 ghost use Rattle.definitions.specs.Chain.{Listing, listed, arrays, padded};

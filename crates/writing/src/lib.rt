@@ -2,6 +2,8 @@
 //
 // Each function stores its text from `at` on (a header: from the start) and returns the place after it. Its contract
 // names the text and says that no other byte changes.
+#![tactic(auto)]
+
 ghost use Rattle.std.specs.Prelude.{◌≡◌, [], ◌∷◌, ◌+◌, ◌*◌, ◌/◌, ◌%◌, ◌^◌, ◌<◌, ◌≤◌, length, replicate};
 ghost use Rattle.definitions.specs.Bytes.{bytes_of};
 ghost use Rattle.definitions.specs.Fields.{headed};

@@ -1,0 +1,19 @@
+-- `muldiv::how_often` meets its contract. Assumes nothing.
+use native.Mathlib.Omega.{arith}
+use Rattle.laws.specs.Rounding.{between_multiples}
+use Rattle.muldiv.proofs.how_often.Goals as goal
+
+pub returns-then-sum-c : goal.returns-then-sum-c
+returns-then-sum-c c =
+    let args = c.args in
+    omega (arith, between_multiples args.sum args.c 0 (omega arith) (omega arith))
+
+pub returns-then-sum-c-2 : goal.returns-then-sum-c-2
+returns-then-sum-c-2 c =
+    let args = c.args in
+    omega (arith, between_multiples args.sum args.c 1 (omega arith) (omega arith))
+
+pub returns-else-sum-c-2 : goal.returns-else-sum-c-2
+returns-else-sum-c-2 c =
+    let args = c.args in
+    omega (arith, between_multiples args.sum args.c 2 (omega arith) (omega arith))
