@@ -92,7 +92,7 @@ pub extern "C" fn kuldrepso_remainders(
     ensures mean { mean.new ≡ number_after (remainders_of file.now state n r) (λ x. x.mean) mean.old }
     ensures share { share.new ≡ number_after (remainders_of file.now state n r) (λ x. x.share) share.old }
     ensures mix { mix.new ≡ number_after (remainders_of file.now state n r) (λ x. x.mix) mix.old }
-    ensures worked { WorkedOut (with_numbers (remainders_of file.now state n r) (record { mean = mean.exit.now; share = share.new; mix = mix.new })) file.now state n r }
+    ensures worked { WorkedOut (with_numbers (remainders_of file.now state n r) (record { mean = mean.new; share = share.new; mix = mix.new })) file.now state n r }
 {
     match remainders::remainders(file, state, n, r) {
         Remainders::Given(rests) => {
