@@ -20,7 +20,7 @@ pub enum Judgement {
 }
 
 // What the run of a file has besides its block: the truncation level N, and the number of row means that it took.
-#[derive(Drop)]
+#[derive(Clone, Copy)]
 pub struct Run {
     pub level: u64,
     pub means: u64,
@@ -42,7 +42,7 @@ pub enum Series {
 }
 
 // Quotient and remainder of a division.
-#[derive(Drop)]
+#[derive(Clone, Copy)]
 pub struct Division {
     pub quotient: u64,
     pub remainder: u64,
@@ -50,7 +50,7 @@ pub struct Division {
 
 // What the three divisions of U(n,r) at a state leave: the remainders of V, the row mean, of W, the reward share, and of U,
 // their mix.
-#[derive(Drop)]
+#[derive(Clone, Copy)]
 pub struct Rests {
     pub mean: u64,
     pub share: u64,
@@ -98,7 +98,7 @@ pub enum Logged {
 
 // The numbers of a chain that stands in arrays: M, the number of states; R, the highest moment; the cells of a block; E, the
 // uniformization rate; F, the largest reward rate.
-#[derive(Drop)]
+#[derive(Clone, Copy)]
 pub struct Sizes {
     pub states: usize,
     pub highest: usize,
@@ -108,7 +108,7 @@ pub struct Sizes {
 }
 
 // A file's header but for its length: version, M, R, tolerance in billionths and time in hours.
-#[derive(Drop)]
+#[derive(Clone, Copy)]
 pub struct Header {
     pub version: u8,
     pub states: u8,

@@ -34,4 +34,4 @@ pub overflow_mul-value : goal.overflow_mul-value
 overflow_mul-value c = omega (arith, small c)
 
 pub overflow_add-value : goal.overflow_add-value
-overflow_add-value c = omega (arith, small c.before)
+overflow_add-value c = omega (arith, small (goal.at.overflow_add-value c).In-loop-k)

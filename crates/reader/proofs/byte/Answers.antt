@@ -7,7 +7,7 @@ pub bounds-file-at : goal.bounds-file-at
 bounds-file-at c = c.requires
 
 pub overflow_cast-result : goal.overflow_cast-result
-overflow_cast-result c = omega (arith, c.shared_slice_known-1.given c.args.at)
+overflow_cast-result c = omega (arith, c.type_inv.file c.args.at)
 
 pub returns : goal.returns
-returns c = (refl, omega (arith, c.shared_slice_known-1.given c.args.at))
+returns c = (refl, omega (arith, c.type_inv.file c.args.at))

@@ -8,7 +8,7 @@ use Rattle.reader.proofs.largest_of.Goals as goal
 
 pub loop-i-preserved : goal.loop-i-preserved
 loop-i-preserved c =
-    let now = c.loop in
+    let now = c.loop-i in
     let values = c.args.values.now in
     (omega arith, c.larger-most.ensures ∙ rw (add-one, largest_suc, now.invariant.1) refl)
 

@@ -19,7 +19,7 @@ module _ (c : After-row_at-at) where
       omega (arith, start, row_room c.args.file.now c.args.i c.requires.0 c.requires.1)
 
 pub returns : goal.returns
-returns c = part_to_end c.args.file.now c.row_at-at.result ∙ rw (start c.before)
+returns c = part_to_end c.args.file.now c.row_at-at.result ∙ rw (start (goal.at.returns c).After-row_at-at)
 
 pub slice_bounds-result-count : goal.slice_bounds-result-count
 slice_bounds-result-count c = inside c

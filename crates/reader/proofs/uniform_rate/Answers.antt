@@ -8,4 +8,4 @@ use Rattle.reader.proofs.uniform_rate.Goals as goal
 pub returns : goal.returns
 returns c =
     rw (c.largest_of.ensures, c.state_count.ensures) at c.larger.ensures
-    ∙ rate_of_sums (model_of c.args.file.now) c.args.sums.now (omega arith) c.requires.1
+    ∙ rate_of_sums (model_of c.args.file.now) c.args.sums.now (omega arith) c.requires.sums_value
