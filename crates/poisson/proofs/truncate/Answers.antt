@@ -36,7 +36,7 @@ loop-x-init c =
     let x = start.args.x in
     let is_mode = c.mode_of-n.ensures in
     let left = c.leftward-sum.ensures in
-    let w = c.leftward-sum.new.1.0 in (
+    let w = c.leftward-sum.new.weights in (
       omega arith,
       omega (arith, level_mode x start.args.tolerance (omega arith) (omega arith)),
       omega (arith, weight_mode x, ap (weight x) is_mode),
@@ -92,7 +92,7 @@ loop-x-preserved c =
       ahead (goal.at.loop-x-preserved c).Else-passes,
       c.step_right-w.ensures.0,
       omega (arith, weight_sum_next x loop.n),
-      over_store (loop.n + 1) (weight x) c.leftward-sum.new.1.0 loop.weights c.step_right-w.result (omega (arith, room (goal.at.loop-x-preserved c).After-leftward-sum, inside (goal.at.loop-x-preserved c).Else-passes, c.leftward-sum.auto)) loop.invariant.4 c.step_right-w.ensures.0,
+      over_store (loop.n + 1) (weight x) c.leftward-sum.new.weights loop.weights c.step_right-w.result (omega (arith, room (goal.at.loop-x-preserved c).After-leftward-sum, inside (goal.at.loop-x-preserved c).Else-passes, c.leftward-sum.auto)) loop.invariant.4 c.step_right-w.ensures.0,
       simp length-set loop.invariant.5,
     )
 
@@ -100,7 +100,7 @@ pub overflow_add-next : goal.overflow_add-next
 overflow_add-next c = omega (arith, last (begin (goal.at.overflow_add-next c).After-leftward-sum))
 
 pub shape_of-weights-then-passes : goal.shape_of-weights-then-passes
-shape_of-weights-then-passes c = c.loop-x.invariant.5 ∙ c.leftward-sum.auto.1.0
+shape_of-weights-then-passes c = c.loop-x.invariant.5 ∙ c.leftward-sum.auto.weights
 
 pub step_right-w-requires : goal.step_right-w-requires
 step_right-w-requires c = (c.loop-x.invariant.2, omega arith, inside c)

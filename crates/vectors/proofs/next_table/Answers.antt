@@ -65,7 +65,7 @@ loop-r-preserved c =
     let n = (start (goal.at.loop-r-preserved c).In-loop-r).args.n in (
       omega arith,
       omega arith,
-      omega (arith, c.loop-r.invariant.2, c.step.ensures.dropped.1),
+      omega (arith, c.loop-r.invariant.2, c.step.ensures.taken),
       table_more ch n (old (goal.at.loop-r-preserved c).In-loop-r) (r (goal.at.loop-r-preserved c).In-loop-r) c.loop-r.table (table_zeros ch (start (goal.at.loop-r-preserved c).In-loop-r).args.sizes.highest (n - 1) (omega arith)).rows (omega arith) c.loop-r.invariant.3
           (c.step.ensures.vector
           ∙ ap₂ (λ (a b : List ℕ). padded ch.states (next_entry ch n (r (goal.at.loop-r-preserved c).In-loop-r) (entry_of a) (entry_of b))) (row_before (goal.at.loop-r-preserved c).In-loop-r) (row_same (goal.at.loop-r-preserved c).In-loop-r)
@@ -77,4 +77,4 @@ returns c =
     let R = c.args.sizes.highest in
     let n = c.args.n in
     let all : c.loop-r.r ≡ R + 1 = omega arith in
-    (table_filled (held (goal.at.returns c).Start) n _ R c.loop-r.r c.loop-r.table (table_zeros (held (goal.at.returns c).Start) R (n - 1) (omega arith)) (omega arith) c.loop-r.invariant.3 (omega arith), omega (arith, rw all at c.loop-r.invariant.2))
+    record { table = table_filled (held (goal.at.returns c).Start) n _ R c.loop-r.r c.loop-r.table (table_zeros (held (goal.at.returns c).Start) R (n - 1) (omega arith)) (omega arith) c.loop-r.invariant.3 (omega arith); taken = omega (arith, rw all at c.loop-r.invariant.2) }

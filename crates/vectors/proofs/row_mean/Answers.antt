@@ -82,7 +82,10 @@ returns c =
     let a = listed args.targets.now args.rates.now args.counts.now in
     let all : c.loop-k.k ≡ get_or args.counts.now args.i 0 = omega arith in
     let whole = c.loop-k.invariant.0 ∙ ap (λ (n : ℕ). sum n (row (goal.at.returns c).Start)) all in
-    ((λ f. divided c _ (whole ∙ sym (row_total_lem a args.v.now args.i c.requires.places c.requires.state))), λ m rows e. divided c _ (whole ∙ row_added m a args.v.now args.i rows e c.requires.state))
+    record {
+      mean = λ f. divided (goal.at.returns c).After-divide _ (whole ∙ sym (row_total_lem a args.v.now args.i c.requires.places c.requires.state));
+      order = λ m rows e. divided (goal.at.returns c).After-divide _ (whole ∙ row_added m a args.v.now args.i rows e c.requires.state);
+    }
 
 pub overflow_mul-first : goal.overflow_mul-first
 overflow_mul-first c = omega (arith, first_max (goal.at.overflow_mul-first c).Start)

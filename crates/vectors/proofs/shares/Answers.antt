@@ -15,7 +15,7 @@ use Rattle.vectors.proofs.shares.Goals.{Start}
 
 -- W of the arguments, with any chain
 abbrev share : Start → Listing → ℕ → ℕ
-share start a k = reward_share (arrays start.args.sizes a start.args.rewards.now) (get_or start.args.t3 k 0) k
+share start a k = reward_share (arrays start.args.sizes a start.args.rewards.now) (get_or start.args.same k 0) k
 
 pub loop-i-init : goal.loop-i-init
 unfolding zeros
@@ -37,4 +37,4 @@ pub returns : goal.returns
 returns c =
     let turn = c.loop-i in
     let all : turn.i ≡ c.args.sizes.states = omega arith in
-    ((λ a. rw all at (turn.invariant.1 a) ∙ over_padded _ (share (goal.at.returns c).Start a) (omega arith)), shares_drop c.args.t3 c.requires.0 (rw all at (turn.invariant.1 (listed [] [] [])) ∙ over_padded _ (share (goal.at.returns c).Start (listed [] [] [])) (omega arith)))
+    record { vector = λ a. rw all at (turn.invariant.1 a) ∙ over_padded _ (share (goal.at.returns c).Start a) (omega arith); dropped = shares_drop c.args.same c.requires.0 (rw all at (turn.invariant.1 (listed [] [] [])) ∙ over_padded _ (share (goal.at.returns c).Start (listed [] [] [])) (omega arith)) }

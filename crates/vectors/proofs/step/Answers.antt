@@ -16,7 +16,7 @@ use Rattle.vectors.proofs.step.Goals.{Start}
 abbrev u : Start → ℕ → ℕ
 u start =
     let args = start.args in
-    next_entry (arrays args.sizes (listed args.targets.now args.rates.now args.counts.now) args.rewards.now) args.n args.r (entry_of args.t8) (entry_of args.t9)
+    next_entry (arrays args.sizes (listed args.targets.now args.rates.now args.counts.now) args.rewards.now) args.n args.r (entry_of args.before) (entry_of args.same)
 
 pub loop-i-init : goal.loop-i-init
 unfolding zeros
@@ -36,7 +36,7 @@ unfolding row_mean reward_share
 mix-u-requires c =
     let mean = c.row_mean-v in
     mix_ready c.requires.0 c.loop-i.i (omega arith) mean.result.quotient c.reward_share-w.result.quotient
-    (ap quotient (mean.ensures.0 c.args.rewards.now)) (ap quotient c.reward_share-w.ensures)
+    (ap quotient (mean.ensures.mean c.args.rewards.now)) (ap quotient c.reward_share-w.ensures)
 
 pub loop-i-preserved : goal.loop-i-preserved
 unfolding row_mean reward_share mix next_entry
@@ -56,4 +56,4 @@ returns c =
     let turn = c.loop-i in
     let all : turn.i ≡ c.args.sizes.states = omega arith in
     let vector = rw all at turn.invariant.2 ∙ over_padded _ (u (goal.at.returns c).Start) (omega arith) in
-    (vector, (step_drops c.requires.0 vector, omega arith))
+    record { vector = vector; dropped = step_drops c.requires.0 vector; taken = omega arith }

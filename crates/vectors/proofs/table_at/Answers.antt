@@ -16,7 +16,10 @@ next_table-requires c =
     let given = c.requires in
     let turn = c.loop-k in
     let back : turn.k + 1 - 1 ≡ turn.k = omega arith in
-    ((given.0, given.1, omega arith, omega arith, omega (arith, count_max _ _ 64 given.0.rewards.states_max given.1)), rw back turn.invariant.1)
+    record {
+      ready = (given.0, given.1, omega arith, omega arith, omega (arith, count_max _ _ 64 given.0.rewards.states_max given.1));
+      table_value = rw back turn.invariant.1;
+    }
 
 pub returns : goal.returns
 returns c =
