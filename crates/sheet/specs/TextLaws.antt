@@ -11,6 +11,7 @@ use Rattle.sheet.specs.Printable.{line, line_width, Shape}
 -- the highest of p digits, and the others
 pub next_digit : (x p : ℕ) → 0 < p → digit x (p - 1) ∷ digits x (p - 1) ≡ digits x p
 unfolding digits
+next_digit x zero pos = elim pos [ ]
 next_digit x (suc q) pos = rw sub-one
 
 -- where powers up to 10^p are looked at: one digit where p is 0, p + 1 where x is not below 10^p, and else as many as with the lower powers
@@ -20,10 +21,12 @@ places_none x p none = rw none
 
 pub places_here : (x p : ℕ) → 0 < p → 10 ^ p ≤ x → places x p ≡ p + 1
 unfolding places
+places_here x zero pos h = elim pos [ ]
 places_here x (suc q) pos h = rw (le-ltb x (10 ^ suc q) h, add-one)
 
 pub places_below : (x p : ℕ) → 0 < p → x < 10 ^ p → places x p ≡ places x (p - 1)
 unfolding places
+places_below x zero pos h = elim pos [ ]
 places_below x (suc q) pos h = rw (lt-ltb x (10 ^ suc q) h, sub-one)
 
 picked : (t : Bool) {a b m : ℕ} → a ≤ m → b ≤ m → pick t a b ≤ m

@@ -1,0 +1,11 @@
+-- `sheet::put_figure` meets its contract: three texts, one after the other. Assumes nothing.
+use mathlib.Core.Path.{◌≡◌}
+use Rattle.definitions.specs.Sheet.{digit, figure}
+use Rattle.writing.specs.Puts.{then}
+use Rattle.sheet.proofs.put_figure.Goals as goal
+
+pub returns : goal.returns
+unfolding figure
+returns c =
+    let units : c.digit_at.result ≡ digit c.args.x 12 = c.digit_at.ensures in
+    rw (← units) (then (then c.put-point.ensures c.put-decimals.ensures) c.put_digits.ensures)

@@ -1,0 +1,14 @@
+-- `sheet::put_number` meets its contract: two texts, one after the other. Assumes nothing.
+use native.Mathlib.Omega.{arith}
+use Rattle.definitions.specs.Sheet.{decimal}
+use Rattle.writing.specs.Puts.{then}
+use Rattle.sheet.specs.TextLaws.{places_limit}
+use Rattle.sheet.proofs.put_number.Goals as goal
+
+pub put_digits-to-requires : goal.put_digits-to-requires
+unfolding decimal
+put_digits-to-requires c = omega (arith, places_limit c.args.x 19)
+
+pub returns : goal.returns
+unfolding decimal
+returns c = rw (← c.places_of.ensures) (then c.put_digits-to.ensures c.put.ensures)
