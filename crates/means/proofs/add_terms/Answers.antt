@@ -13,7 +13,7 @@ use Rattle.laws.specs.MomentLaws.{state_of_cell, count_max, term_max}
 use Rattle.means.specs.Running.{in_table}
 use Rattle.means.specs.RunningLaws.{cell_in_table}
 use Rattle.means.proofs.add_terms.Goals as goal
-use Rattle.means.proofs.add_terms.Goals.{After-term, In-loop-k, Joined-r-highest, Start}
+use Rattle.means.proofs.add_terms.Goals.{After-term, In-loop-k, Joined-r-highest, Start, else-r-highest, then-r-highest}
 
 small : (c : Start) → c.args.sizes.states * c.args.sizes.highest ≤ 512
 small c = count_max c.args.sizes.states c.args.sizes.highest 64 c.requires.states_max c.requires.highest_max
@@ -71,7 +71,10 @@ next_cell : (c : Joined-r-highest) →
     (c.loop-k.k + 1 ≡ c.if-r-highest.i * R + (c.if-r-highest.r - 1)) × (1 ≤ c.if-r-highest.r) × (c.if-r-highest.r ≤ R)
 next_cell c =
     let R = c.args.sizes.highest in
-    ⊎_elim (λ w. omega (arith, ap (λ (n : ℕ). n * R) w.1)) (λ w. omega (arith, ap (λ (n : ℕ). n * R) w.1)) c.if-r-highest.either
+    elim c.if-r-highest.branch [
+      | then-r-highest w ↦ omega (arith, ap (λ (n : ℕ). n * R) w.i-is)
+      | else-r-highest w ↦ omega (arith, ap (λ (n : ℕ). n * R) w.i-is)
+    ]
 
 pub loop-k-preserved : goal.loop-k-preserved
 loop-k-preserved c =
@@ -82,7 +85,7 @@ loop-k-preserved c =
       (next_cell c).0,
       (next_cell c).1,
       (next_cell c).2,
-      over_store k _ begin.args.cells.now _ _ (omega (arith, begin.pre.enough)) (turn (goal.at.loop-k-preserved c).After-term).loop-k.invariant.5 (ap₂ ◌+◌ (standing (goal.at.loop-k-preserved c).After-term) (is_term (goal.at.loop-k-preserved c).After-term)),
+      over_store k _ begin.args.cells.now _ _ (omega (arith, begin.requires.enough)) (turn (goal.at.loop-k-preserved c).After-term).loop-k.invariant.5 (ap₂ ◌+◌ (standing (goal.at.loop-k-preserved c).After-term) (is_term (goal.at.loop-k-preserved c).After-term)),
       simp length-set (turn (goal.at.loop-k-preserved c).After-term).loop-k.invariant.6,
     )
 

@@ -23,7 +23,13 @@ enough start = square_max (state_count start.args.file.now) 64 start.requires.ac
 
 pub list_rows-requires : goal.list_rows-requires
 list_rows-requires c =
-    (c.requires.accepted_model.0.framed, ((enough (goal.at.list_rows-requires c).Start, enough (goal.at.list_rows-requires c).Start, c.requires.accepted_model.0.limits.states_max), (c.requires.sums_value.0, (rate_is (goal.at.list_rows-requires c).Start, omega (arith, rate_is (goal.at.list_rows-requires c).Start, c.requires.accepted_model.0.limits.rate_max)))))
+    let start = (goal.at.list_rows-requires c).Start in
+    record {
+      framed = c.requires.accepted_model.0.framed;
+      file_in_bounds = (enough start, enough start, c.requires.accepted_model.0.limits.states_max);
+      sums_value = c.requires.sums_value.0;
+      rate_value = (rate_is start, omega (arith, rate_is start, c.requires.accepted_model.0.limits.rate_max));
+    }
 
 -- the arrays that were read hold the file's chain
 module _ (c : After-rewards-1) where
