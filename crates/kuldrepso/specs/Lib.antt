@@ -1,3 +1,2 @@
--- What the exported calls' contracts cite, and their laws.
+-- What the exported calls' contracts cite.
 pub mod Plain
-pub mod PlainLaws

@@ -1,0 +1,2 @@
+-- The laws of what the exported calls' contracts cite.
+pub mod PlainLaws
