@@ -1,6 +1,6 @@
 #!/usr/bin/env python3
 """Fails where a `pub fn` under crates/ has no `ensures` before its body, and where a function of a library lends something by `&mut`
-that no `ensures` tells: for each such parameter x, `x .exit` has to stand in one, by itself or handed to what the clause cites.
+that no `ensures` tells: for each such parameter x, `x.new` has to stand in one, by itself or handed to what the clause cites.
 Tries itself on FORMS and LENT first."""
 
 import pathlib
@@ -11,7 +11,7 @@ from collections import namedtuple
 ROOT = pathlib.Path(__file__).resolve().parent.parent
 HEAD = re.compile(r'\b(pub\b)?\s*(?:\([^)]*\)\s*)?(?:(?:const|extern\s*"[^"]*")\s*)*\bfn\s+(\w+)')
 LENDS = re.compile(r"(\w+)\s*:\s*&\s*(?:'\w+\s+)?mut\b")
-CLAUSE = re.compile(r"\b(requires|ensures)(?:\s+[\w-]+)?\s*$")
+CLAUSE = re.compile(r"\b(requires|ensures)\*?(?:\s+\w+)?\s*$")
 NO_CODE = re.compile(r"""//[^\n]*|"(?:\\.|[^"\\])*"|b'(?:\\.[^']*|[^'\\])'""", re.S)
 
 # Public functions, with @ where a clause may stand: without it each is found, with it none is.
@@ -19,24 +19,25 @@ FORMS = [
     "pub fn f() @ {}",
     "pub fn f() -> u8 @ { 1 }",
     "pub fn f(\n    a: u8,\n) -> [u8; 2]\n    @\n{\n    [a, a]\n}",
-    "pub fn f(a: u8) -> u8\n    requires low { ⌜ Low {n = 1} a ⌝ }\n    requires {\n        ⌜ a < 9 ⌝\n    }\n    @\n{\n    a\n}",
+    "pub fn f(a: u8) -> u8\n    requires low { Low {n = 1} a }\n    requires limit {\n        a < 9\n    }\n    @\n{\n    a\n}",
     "impl S {\n    pub fn f(self) -> u8 @ { self.x }\n}",
-    'pub mod m { #[no_mangle] pub extern "C" fn f() @ {} }',
+    'pub mod m { #[unsafe(no_mangle)] pub extern "C" fn f() @ {} }',
     "pub(crate) fn f() @ {}",
     "pub const fn f() @ {}",
     "pub fn f() // ensures {\n    @ {}",
-    "pub fn f() @ {}\nfn g() ensures { ⌜ 1 ≡ 1 ⌝ } {}",
+    "pub fn f() @ {}\nfn g() ensures { 1 ≡ 1 } {}",
     "fn g() -> u8 { let s = b\"ensures \\\" {\"; b'{' }\npub fn f<'a>(s: &'a [u8]) -> &'a [u8] @ { s }",
 ]
-CLAUSES = ["ensures { λ r. ⌜ r ≡ g {n = 1} ⌝ }", "ensures cells {\n        λ r. ⌜ Unit ⌝\n    }"]
+CLAUSES = ["ensures { result ≡ g {n = 1} }", "ensures cells {\n        Unit\n    }", "ensures* cells { Unit }"]
 PRIVATE = ["fn f() {}", "// pub fn f() {}", 'fn f() { let s = b"pub fn g() {}"; }']
 
 # Functions that lend a and b, with what is untold of them.
 LENT = [
-    ("pub fn f(a: &mut [u8], b: &mut u64) ensures { λ r. ⌜ now (a .exit) ≡ now (b .exit) ⌝ } {}", []),
-    ("fn f<'x>(a: &'x mut [u8; 4], n: u8, b: & mut [u64])\n    ensures one { λ r. ⌜ R (now (a .exit)) r ⌝ }\n    ensures { λ r. ⌜ r ≡ now (b .entry) ⌝ }\n{}", ["b"]),
-    ("pub fn f(a: &mut u8, b: &mut u8) -> u8\n    requires { ⌜ now (a .exit) ≡ now (b .exit) ⌝ }\n    ensures { λ r. ⌜ r ≡ 1 ⌝ } { 1 } // a .exit b .exit", ["a", "b"]),
-    ("pub fn f(ab: &mut u8, b: &mut u8) ensures { λ r. ⌜ now (ab .exit) ≡ 1 ⌝ } {}", ["b"]),
+    ("pub fn f(a: &mut [u8], b: &mut u64) ensures { a.new ≡ b.new } {}", []),
+    ("fn f<'x>(a: &'x mut [u8; 4], n: u8, b: & mut [u64])\n    ensures one { R a.new result }\n    ensures two { result ≡ b.old }\n{}", ["b"]),
+    ("pub fn f(a: &mut u8, b: &mut u8) -> u8\n    requires { a.new ≡ b.new }\n    ensures { result ≡ 1 } { 1 } // a.new b.new", ["a", "b"]),
+    ("pub fn f(ab: &mut u8, b: &mut u8) ensures { ab.new ≡ 1 } {}", ["b"]),
+    ("pub fn f(a: &mut S) ensures { length a.new.items ≡ 1 } {}", []),
     ("fn f(a: &u8, b: u8) -> u8 { let mut a = b; a }", []),
 ]
 
@@ -64,7 +65,7 @@ def function(text, head):
                 lent = LENDS.findall(part)
             elif body is not None:
                 told = ensures or ""
-                untold = [name for name in lent or [] if not re.search(rf"\b{name} \.exit\b", told)]
+                untold = [name for name in lent or [] if not re.search(rf"\b{name}\.new\b", told)]
                 return Function(head.group(2), text.count("\n", 0, head.start(2)) + 1, head.group(1) is not None, ensures is not None, untold, body, place)
             elif clause is not None and clause.group(1) == "ensures":
                 ensures = (ensures or "") + part

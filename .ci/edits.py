@@ -1,13 +1,12 @@
 #!/usr/bin/env python3
-"""docs/EDITS.md, made from the edits that the prover must refuse and the logs that `rt ci` leaves of them.
+"""docs/EDITS.md, made from the edits that the prover must refuse and what `rt ci` or `rt must-fail` says of them.
 
-    python3 .ci/edits.py             write it
-    python3 .ci/edits.py --check     fail where it would be another, where an edit has no comment on its first line,
-                                     where the first refusal in a log is no fact that fails, or where no edit
-                                     changes the body of a public function
-    --target DIR                     the folder with must-fail/, if not target/
+    python3 .ci/edits.py LOG..            write it; each LOG holds what such a run printed
+    python3 .ci/edits.py --check LOG..    fail where it would be another, where an edit has no comment on its first line,
+                                          where the refusal that a log shows is no fact that fails, or where no edit
+                                          changes the body of a public function
 
-A refusal that only follows from an earlier one ("cannot be checked") is passed over. SAMPLES is tried first.
+The crates of TO_COME are being written, and have no edits yet. A log shows the first 160 characters of an edit's first refusal that follows from no missing name. SAMPLES is tried first.
 """
 
 import argparse
@@ -24,12 +23,12 @@ PAGE = ROOT / "docs/EDITS.md"
 TEXT = """\
 # Edits that the prover refuses
 
-Made by `.ci/edits.py`; the gate fails where this page is not what it would write.
+Made by `.ci/edits.py` from the log of an `rt ci`; the gate fails where this page is not what it would write.
 
 `crates/NAME/must-fail/LABEL.edit` changes a crate in one place or a few; `rt ci` applies each to a copy and passes only where the prover refuses it. Every one is
-refused because a fact fails: the first refusal in `target/must-fail/NAME/LABEL/.log` is either a counterexample (numbers at which all that is
-known holds and the goal fails) or two sides of a goal that differ, shown here where they are short; "as printed" stands where the prover computed neither side. "Refused in" names the module or the function whose proof
-fails, and the fact: `returns` is what the function ensures, `F-requires` what F asks of its caller, `loop-holds` and `loop-again` an invariant at the start and after a round.
+refused because a fact fails: the first refusal that `rt ci` shows is either a counterexample (all that is known holds and the goal fails)
+or two sides of a goal that differ. "Refused in" names the module or the function whose proof
+fails, and the fact: `returns` is what the function ensures, `F-x-requires` what F asks of the call that gives x, `loop-i-init` and `loop-i-preserved` the invariant of a loop over i at the start and after a round.
 Most edits keep the code's shape. Some need an operator, a statement or a test more, as `muldiv/to_the_nearest`, where a half has to be added, `moments/levels_written_on_a_refusal`, which adds a test, or `practice/bytes_cleared_on_a_refusal`, which adds a store; where that would move the proof's paths, the edit moves them by as much, so that the fact is what fails.
 
 Three limits. A refused law is not a false law: `one_tick_less_at_the_level`, `half_the_vector_error` and `last_level_one_less` show that the proof does not reach the tighter bound.
@@ -42,100 +41,106 @@ Last, a right version in another form may be refused in the same words, where th
 
 # --- How a refusal is read ------------------------------------------------------------------------------------
 
-COUNTEREXAMPLE = re.compile(r"does not follow from what it read\. All of that holds, and the (?:goal|part) fails[.,]")
-DIFFER = re.compile(r"""the\ two\ types\ (?:(?:differ\ only|first\ differ)\ where\ one\ has|are)\s+`([^`]*)`\s+\(expected\)
-                        (?:,\ (?:right\ after\s+`[^`]*`|at\ the\ start))?,?\s+and(?:\ the\ other\ has)?\s+`([^`]*)`\s+\(found\)""", re.X)
-# Names that Rattle makes for places in the code, what antt left open, and an operator without its numbers: these differ where the shape does.
-SHAPE = re.compile(r"\b(?:Lts|Tie|Reads|lts|tie|reads)\.|\?\w|^\(?(?:[\w·-]+\.)*_[^\s_]+_\)?$")
-COMPUTED = "computed as far as they go"
-NOT_COMPUTED = "what the two types compute to is not shown"
+LINE = re.compile(r"^rt: must-fail (\w+)/(\S+)\.edit: (.*)$", re.M)
+REFUSED = "refused, as it must be: "
+SHOWN = 160    # rt shows so much of a refusal
+ERROR = re.compile(r"(\S+?):(\d+):\d+: error: `([^`]*)`: (.*)")
+# of a function that is proved without a file
+NOTE = re.compile(r"note: (\S+?):(\d+):\d+: it is not proved that [^`]*(?:`[^`]*` [^`]*)?\(`([^`]*)`\)(.*)")
 
-
-def short(side):
-    """A side as it is shown: no module names, no steps back through the code, of a list its first entry; empty where long."""
-    side = re.sub(r"(?<![\w·.-])(?:[\w·-]+\.)+(?=\w)", "", side)
-    side = re.sub(r"\bc (?:\.before )*(?=\.)|(?:\.before )+", "", side)
-    side = side[1:-1] if re.fullmatch(r"\([^()]*\)", side) else side
-    side = re.sub(r" ∷ .{12,}", " ∷ ..", side)
-    return side if len(side) <= 40 else ""
-
-
-def reason(message):
-    """The fact that fails, in a word or two; empty where the message tells of none."""
-    if COUNTEREXAMPLE.search(message):
-        return "counterexample"
-    found = DIFFER.findall(message)
-    if not found or NOT_COMPUTED in message or any(map(SHAPE.search, found[-1])):
-        return ""
-    path = re.fullmatch(r"Path .* (\([^()]*\)) (\([^()]*\))", found[-1][0])
-    left, right = map(short, path.groups() if path else found[-1])
-    printed = "" if COMPUTED in message else ", as printed"
-    return (f"`{left}` is not `{right}`" if left and right else "the two sides differ") + printed
-
-
-Refusal = namedtuple("Refusal", "place name message")
-
-
-def place_of(path):
-    """The function of a proof file, or the module's name."""
-    path = pathlib.PurePath(path)
-    return path.parent.name.lstrip("+") if path.name == "Proof.antt" else path.stem
-
-
-def first_refusal(log):
-    """The first refusal in a log that follows from no other, or None."""
-    blocks = re.split(r"^(?=\S)", log, flags=re.M)
-    for block in blocks:
-        error = re.match(r"(\S+?):\d+:\d+: error\S*: (?:`([^`]*)`: )?(.*)", block, re.S)
-        if error and "so this cannot be checked" not in block:
-            return Refusal(place_of(error.group(1)), error.group(2) or "", error.group(3))
-        # a function that is proved without a file: the fact's name, then what the prover said of it, and the function
-        note = re.match(r"note: \S+: it is not proved that .*\(`([^`]*)`\)$", block, re.M)
-        if note:
-            function = re.search(r"^fn \S*?(\w+): no proof", log[log.index(block):], re.M)
-            said = [other for other in blocks if f": `{note.group(1)}`: `" in other]
-            return Refusal(function.group(1) if function else "", note.group(1), "".join(said))
-    return None
-
-
-# What the prover says, and what it is read as: (place, name, reason).
-SAMPLES = [
-    ("T/proofs/+f/Proof.antt:9:1: error: `f-spec`: `omega`: the part `.1` of the goal does not follow from what it read. All of that holds, and the part fails, at `a` = 1.",
-     ("f", "f-spec", "counterexample")),
-    ("T/specs/Law.antt:9:1: error: `law`: computed as far as they go, the two types differ only where one has `9` (expected) and the other has `10`\n  (found)\n",
-     ("Law", "law", "`9` is not `10`")),
-    ("T/proofs/f/Proof.antt:9:1: error: `returns`: as printed, the two types first differ where one has `R.Reads.Post` (expected), at the start, and the other has `_≡_` (found)\n"
-     "  computed as far as they go, the two types are `Path A.the-data (A.No 1) (A.No 2)`\n  (expected) and `Path A.the-data (A.No 1) (A.No 1)` (found)\n",
-     ("f", "returns", "`No 1` is not `No 2`")),
-    ("T/specs/Law.antt:9:1: error: `law`: computed as far as they go, the two types differ only where one has `(c .before .before .a .x + 1)` (expected) and the other has `c .a .x` (found)\n",
-     ("Law", "law", "`.a .x + 1` is not `.a .x`")),
-    ("T/proofs/f/Proof.antt:9:1: error: `f-spec`: `returns` was not admitted (it was rejected), so this cannot be checked\nnote: T/src/lib.rt:5:1: it is not proved that"
-     " what the function ensures holds (`returns`)\nnote: what antt said: T/src/lib.rt:5:8: `returns`: `search`: no proof. `omega`: the goal does not follow from what it read. All of that holds, and the goal fails, at `a` = 1\n"
-     "fn x::g: no proof: expected `g-spec`\n", ("g", "returns", "counterexample")),
-    ("T/proofs/f/Proof.antt:9:1: error: `start`: computed as far as they go, the two types differ only where one has `R.f.Lts.Else1` (expected) and the other has `R.f.Lts.After-g` (found)\n",
-     ("f", "start", "")),
-    ("T/proofs/f/Proof.antt:9:1: error: `add-if`: `tie.Need-add-if`: module `R.f.Tie` has no `Need-add-if` that can be named from here\n", ("f", "add-if", "")),
-    ("T/proofs/f/Proof.antt:9:1: error: `below`: `omega`: the goal does not follow from what it read. All of that holds, and the goal fails. It read 0 hypotheses\n",
-     ("f", "below", "counterexample")),
-    ("T/proofs/f/Proof.antt:9:1: error: `below`: `omega` stopped at a bound of its own: the goal has more than 64 parts.\n", ("f", "below", "")),
-    ("T/proofs/f/Proof.antt:9:1: error: `returns`: `search`: no proof of `a ≡ b` was found. Every way was tried\n", ("f", "returns", "")),
-    ("T/proofs/f/Proof.antt:9:1: error: `returns`: computed as far as they go, the two types first differ where one has `Prim.Native.Nat._*_` (expected) and the other has `Prim.Native.Nat._+_` (found)\n",
-     ("f", "returns", "")),
-    ("T/specs/Law.antt:9:1: error: `law`: as printed, the two types differ only where one has `9` (expected), right after `f ≡`, and the other has `f` (found)\n"
-     "  what the two types compute to is not shown, because one could not be computed (found: computing it took more than 200000 steps)\n", ("Law", "law", "")),
-    ("T/specs/Law.antt:9:1: error: `law`: as printed, the two types differ only where one has `g 9` (expected), right after `f ≡`, and the other has `f` (found)\n",
-     ("Law", "law", "`g 9` is not `f`, as printed")),
-    ("T/specs/Law.antt:9:1: error: expected `×` after the Σ binder, found `:`\n", ("Law", "", "")),
-    ("T/src/lib.rt:9:1: error[unknown-name]: cannot find `h` in this scope\n", ("lib", "", "")),
+COUNTEREXAMPLE, DIFFER = "counterexample", "the two sides differ"
+# How the prover begins to tell of a fact that fails.
+FACTS = [
+    ("`omega`: the goal does not follow", COUNTEREXAMPLE),
+    ("`omega`: the part `", COUNTEREXAMPLE),
+    ("; the facts known there allow values", COUNTEREXAMPLE),
+    ("as printed, the two types ", DIFFER),
+    ("computed as far as they go, the two types ", DIFFER),
+    ("expected type `", DIFFER),
 ]
+# An operator without its numbers, or what the prover left open: these differ where the proof's shape does.
+SHAPE = re.compile(r"(?:where one has|the two types are) `(?:\([^`() ]*◌[^`() ]*\)|[^`() ]*◌[^`() ]*|\?\w*)`")
+
+Refusal = namedtuple("Refusal", "place name why")
+
+
+def place_of(path, line, text_of):
+    """The function of a proof file or of a line in a source, or the module's name."""
+    path = pathlib.PurePath(path)
+    if path.parts[0] == "proofs" and path.name in ("Answers.antt", "Invariants.antt", "Proof.antt"):
+        return path.parent.name.lstrip("+")
+    if path.parts[0] == "src":
+        above = [found.name for found in contracts.functions(text_of(path)) if found.line <= line]
+        return above[-1] if above else path.stem
+    return path.stem
+
+
+def reason(message, cut):
+    """The fact that fails, in a word or two; empty where the message tells of none. A cut message may end within its first words."""
+    if SHAPE.search(message):
+        return ""
+    return next((why for start, why in FACTS if message.startswith(start) or cut and start.startswith(message)), "")
+
+
+def refusal(said, text_of):
+    """What a log says of an edit, read as a refusal, or None where it names no statement. text_of gives a source's text."""
+    if not said.startswith(REFUSED):
+        return None
+    shown = said[len(REFUSED):]
+    match = ERROR.match(shown) or NOTE.match(shown)
+    if not match:
+        return None
+    path, line, name, message = match.groups()
+    return Refusal(place_of(path, int(line), text_of), name, reason(message, len(shown) >= SHOWN))
+
+
+LONG = "L" * 112    # so long that rt cuts what it shows
+
+# What a log says of an edit, and what it is read as: place, name and reason, or None.
+SAMPLES = [
+    ("refused, as it must be: ./proofs/+f/Answers.antt:8:13: error: `returns`: `omega`: the goal does not follow from what it read. All of that holds", ("f", "returns", COUNTEREXAMPLE)),
+    ("refused, as it must be: ./proofs/f/Answers.antt:38:72: error: `returns`: `omega`: the part `.whole` of the goal does not follow from what it read.", ("f", "returns", COUNTEREXAMPLE)),
+    ("refused, as it must be: ./specs/Law.antt:103:12: error: `law`: as printed, the two types differ only where one has `0 ∷ 0 ∷ []`", ("Law", "law", DIFFER)),
+    ("refused, as it must be: ./proofs/Law.antt:15:12: error: `law`: expected type `f 9 ≡ 53`, but this has type `f 9 ≡ f 9`", ("Law", "law", DIFFER)),
+    ("refused, as it must be: note: src/lib.rt:9:1: it is not proved that what the function ensures holds when it returns (`returns`); the facts known there allow values at which this goal", ("g", "returns", COUNTEREXAMPLE)),
+    ("refused, as it must be: note: src/lib.rt:6:9: it is not proved that what `g` requires holds at this call (`g-b-requires`); the facts known there allow values at which this goal", ("f", "g-b-requires", COUNTEREXAMPLE)),
+    ("refused, as it must be: note: src/lib.rt:9:1: it is not proved that what the function ensures holds when it returns (`returns`)", ("g", "returns", "")),
+    ("refused, as it must be: ./proofs/f/Answers.antt:9:1: error: `below`: `omega` stopped at a bound of its own: the goal has more than 64 parts.", ("f", "below", "")),
+    ("refused, as it must be: ./proofs/f/Answers.antt:9:1: error: `returns`: `search`: no proof of `a ≡ b` was found. Every way was tried", ("f", "returns", "")),
+    ("refused, as it must be: ./proofs/f/Answers.antt:9:1: error: `returns`: as printed, the two types first differ where one has `Rattle.std.◌*◌` (expected)", ("f", "returns", "")),
+    (f"refused, as it must be: ./specs/{LONG}.antt:9:1: error: `law`: `omega`: the go", (LONG, "law", COUNTEREXAMPLE)),
+    ("refused, as it must be: ./specs/Law.antt:9:1: error: `law`: `omega`: the go", ("Law", "law", "")),
+    ("refused, as it must be: ./specs/Law.antt:9:1: error: expected `×` after the Σ binder, found `:`", None),
+    ("refused, as it must be (only because a proof file names what the edit took away, so this says little of the contract: change a value and keep the names): ./proofs/f/Answers.antt:9:1:", None),
+    ("refused, as it must be (only by a limit of the prover, which gave no verdict, so this says less of the contract: choose a change that it refuses sooner): ./specs/Law.antt:9:1:", None),
+    ("refused, as it must be", None),
+    ("BAD EDIT: an 'old:' text is in src/lib.rt 0 times, and not once", None),
+    ("NOT REFUSED: the crate is still proved with this edit", None),
+]
+SOURCE = """
+pub fn f() ensures { 1 ≡ 1 }
+{
+}
+
+// g
+pub fn g() ensures { 1 ≡ 1 }
+{
+}
+"""
 
 
 def self_test():
     """The samples that are read wrongly."""
-    def read(log):
-        refusal = first_refusal(log)
-        return (refusal.place, refusal.name, reason(refusal.message))
-    return [f"edits.py reads {read(log)}, not {answer}, from:\n{log}" for log, answer in SAMPLES if read(log) != answer]
+    wrong = []
+    for said, answer in SAMPLES:
+        read = refusal(said, lambda _: SOURCE)
+        if (read and tuple(read)) != answer:
+            wrong.append(f"edits.py reads {read}, not {answer}, from: {said}")
+    return wrong
+
+
+# Crates that have no edits yet.
+TO_COME = {"stays"}
 
 
 # --- The page -------------------------------------------------------------------------------------------------
@@ -157,6 +162,8 @@ def untouched(listed):
                 changes.setdefault((crate, name), []).append(line[5:])
     for path in sorted(ROOT.glob("crates/*/src/**/*.rt")):
         crate, *rest = path.relative_to(ROOT / "crates").parts
+        if crate in TO_COME - {name for name, _, _ in listed}:
+            continue
         name = "/".join(rest)
         text = path.read_text(encoding="utf-8")
         places = [text.find(old) for old in changes.get((crate, name), [])]
@@ -165,33 +172,36 @@ def untouched(listed):
                 yield f"{crate}: no edit changes the body of pub fn {found.name}"
 
 
-def row(crate, label, path, target):
+def row(crate, label, path, said):
     """A line of the table, and what is wrong with the edit."""
     faults = []
     comment = re.match(r"#\s*(\S.*)", path.read_text(encoding="utf-8"))
     if not comment:
         faults.append("has no comment on its first line that says what it does")
-    log = target / "must-fail" / crate / label / ".log"
-    refusal = first_refusal(log.read_text(encoding="utf-8")) if log.is_file() else None
-    why = reason(refusal.message) if refusal else ""
-    if not refusal:
-        faults.append(f"is refused nowhere in {log}: run `rt ci`")
-    elif not why:
-        faults.append(f"is refused in {refusal.place}, `{refusal.name}`, but by no fact that fails: {refusal.message[:300]}")
-    where = f"{refusal.place}, `{refusal.name}`" if refusal else ""
-    cells = [crate, label, comment.group(1) if comment else "", where, why]
+    found = said and refusal(said, lambda name: (ROOT / "crates" / crate / name).read_text(encoding="utf-8"))
+    if not said:
+        faults.append("is in no log: run `rt ci`")
+    elif not found:
+        faults.append(f"is refused by no statement: {said}")
+    elif not found.why:
+        faults.append(f"is refused in {found.place}, `{found.name}`, but by no fact that fails: {said}")
+    where = f"{found.place}, `{found.name}`" if found else ""
+    cells = [crate, label, comment.group(1) if comment else "", where, found.why if found else ""]
     line = " | ".join(cell.replace("|", "\\|") for cell in cells)
     return f"| {line} |\n", [f"{crate}/{label} {fault}" for fault in faults]
 
 
 def main():
-    parser = argparse.ArgumentParser(description="Make docs/EDITS.md from the must-fail edits and their logs.")
+    parser = argparse.ArgumentParser(description="Make docs/EDITS.md from the must-fail edits and a log of rt ci.")
     parser.add_argument("--check", action="store_true", help="compare, and write nothing")
-    parser.add_argument("--target", type=pathlib.Path, default=ROOT / "target", metavar="DIR")
+    parser.add_argument("logs", nargs="+", type=pathlib.Path, metavar="LOG", help="what rt ci or rt must-fail printed")
     options = parser.parse_args()
+    said = {}
+    for log in options.logs:
+        said.update(((crate, label), text) for crate, label, text in LINE.findall(log.read_text(encoding="utf-8")))
     faults, page, listed = self_test(), TEXT, edits()
     for crate, label, path in listed:
-        line, wrong = row(crate, label, path, options.target)
+        line, wrong = row(crate, label, path, said.get((crate, label)))
         page += line
         faults += wrong
     faults += untouched(listed)
@@ -200,7 +210,7 @@ def main():
     if not options.check:
         PAGE.write_text(page, encoding="utf-8")
     elif not PAGE.is_file() or PAGE.read_text(encoding="utf-8") != page:
-        faults.append("docs/EDITS.md is not what .ci/edits.py writes: run it, and commit the page")
+        faults.append("docs/EDITS.md is not what .ci/edits.py writes: run it on a log of rt ci, and commit the page")
     for fault in faults:
         print(f"edits.py: {fault}", file=sys.stderr)
     print(f"{len(listed)} edits, each refused because a fact fails" if not faults else f"{len(listed)} edits, {len(faults)} faults")

@@ -26,7 +26,7 @@ where its own is above 0: the bytes of the file with that reward, which are buil
 it, that this is the answer for the file itself, all cells after the call, that the reward is one that the state may be
 raised to, and that one more than the largest and one less than its own are not. The numbers are the reference's, which
 counts the row means one by one as it takes them. The theorems stand in a scratch crate outside the repository, which cites
-crates/definitions and is checked by `rt check DIR`. A refusal counts only where the prover names the altered statement and
+a copy of crates/definitions and is checked by `rt check`. A refusal counts only where the prover names the altered statement and
 says that its two sides differ, and for each kind of number it must have shown the right and the altered one side by side;
 of what rewards a state may be raised to, where it says that what is left to show is false.
 """
@@ -53,28 +53,25 @@ import models  # noqa: E402
 # --- All that names a definition. Those to unfold are read from the crate's specs/ (`unfoldable`). ------------
 
 HEAD = """\
-use Prim.Native.Nat.{ℕ, _-_, _*_}
-use native.Mathlib.Omega.{arith}
-use mathlib.Core.List.{List, [], _∷_}
-use mathlib.Core.Path.{_≡_, refl}
-use lib.ListN.{length, getD}
-use Rattle·definitions.specs.Chain.{modelOf, chainOf}
-use Rattle·definitions.specs.Rules.{accepted, refused, saying, lastTime}
-use Rattle·definitions.specs.Moment.{countAfter}
-use Rattle·definitions.specs.Maybe.{given, none}
-use Rattle·definitions.specs.Remainders.{numberAfter, meanOf, shareOf}
-use Rattle·definitions.specs.Written.{countOf, bytesAfter}
-use Rattle·definitions.specs.Order.{Raises}
+use Rattle.std.specs.Prelude.{ℕ, ◌-◌, ◌*◌, List, [], ◌∷◌, ◌≡◌, refl, length, get_or}
+use Rattle.std.proofs.Common.{arith}
+use Rattle.definitions.specs.Chain.{model_of, chain_of}
+use Rattle.definitions.specs.Rules.{accepted, refused, saying, last_time}
+use Rattle.definitions.specs.Moment.{count_after}
+use Rattle.definitions.specs.Maybe.{given, none}
+use Rattle.definitions.specs.Remainders.{number_after, mean_of, share_of}
+use Rattle.definitions.specs.Written.{count_of, bytes_after}
+use Rattle.definitions.specs.Order.{Raises}
 """
-USE = "use Rattle·definitions.specs.{module}.{{{names}}}\n"
+USE = "use Rattle.definitions.specs.{module}.{{{names}}}\n"
 LENT = """
 abbrev {name} : {type}
 {name} = {value}
 """
 THEOREM = """
-pub {name}-{label} : {says}
+pub {name} : {says}
 unfolding {unfolded}
-{name}-{label} = {proof}
+{name} = {proof}
 """
 ANSWER = {
     "level": "accepted (record {{ level = {}; means = {} }})",
@@ -89,45 +86,45 @@ RIGHT = {"moved": "accepted ({})", "dealt": "accepted ({})", "unchanged": "outco
 LEFT = {
     "calculate": {
         "answer": "outcome {file} (length {cells})",
-        "cells": "cellsAfter (outcome {file} (length {cells})) {file} {cells}",
-        "row_means": "countAfter (saying (λ x. x .means) (outcome {file} (length {cells}))) (getD {row_means} 0 0) ∷ []",
-        "sheet": "printedSheet {file}",
+        "cells": "cells_after (outcome {file} (length {cells})) {file} {cells}",
+        "row_means": "count_after (saying (λ x. x.means) (outcome {file} (length {cells}))) (get_or {row_means} 0 0) ∷ []",
+        "sheet": "printed_sheet {file}",
     },
     "series": {
-        "answer": "seriesOutcome {file} {times} (length {levels}) (length {cells})",
-        "levels": "levelsAfter (seriesOutcome {file} {times} (length {levels}) (length {cells})) {file} {times} {levels}",
-        "cells": "blocksAfter (seriesOutcome {file} {times} (length {levels}) (length {cells})) {file} {times} {cells}",
-        "row_means": "countAfter (seriesOutcome {file} {times} (length {levels}) (length {cells})) (getD {row_means} 0 0) ∷ []",
-        "file": "withTime {file} (lastTime {times})",
+        "answer": "series_outcome {file} {times} (length {levels}) (length {cells})",
+        "levels": "levels_after (series_outcome {file} {times} (length {levels}) (length {cells})) {file} {times} {levels}",
+        "cells": "blocks_after (series_outcome {file} {times} (length {levels}) (length {cells})) {file} {times} {cells}",
+        "row_means": "count_after (series_outcome {file} {times} (length {levels}) (length {cells})) (get_or {row_means} 0 0) ∷ []",
+        "file": "with_time {file} (last_time {times})",
     },
     "remainders": {
-        "answer": "remaindersOf {file} {state} {n} {r}",
-        "mean": "numberAfter (remaindersOf {file} {state} {n} {r}) (λ x. x .mean) (getD {mean} 0 0) ∷ []",
-        "share": "numberAfter (remaindersOf {file} {state} {n} {r}) (λ x. x .share) (getD {share} 0 0) ∷ []",
-        "mix": "numberAfter (remaindersOf {file} {state} {n} {r}) (λ x. x .mix) (getD {mix} 0 0) ∷ []",
-        "quotients": "meanOf (chainOf (modelOf {file})) {n} {r} ({state} - 1) ∷ shareOf (chainOf (modelOf {file})) {n} {r} ({state} - 1) ∷ U (chainOf (modelOf {file})) {n} {r} ({state} - 1) ∷ []",
+        "answer": "remainders_of {file} {state} {n} {r}",
+        "mean": "number_after (remainders_of {file} {state} {n} {r}) (λ x. x.mean) (get_or {mean} 0 0) ∷ []",
+        "share": "number_after (remainders_of {file} {state} {n} {r}) (λ x. x.share) (get_or {share} 0 0) ∷ []",
+        "mix": "number_after (remainders_of {file} {state} {n} {r}) (λ x. x.mix) (get_or {mix} 0 0) ∷ []",
+        "quotients": "mean_of (chain_of (model_of {file})) {n} {r} ({state} - 1) ∷ share_of (chain_of (model_of {file})) {n} {r} ({state} - 1) ∷ U (chain_of (model_of {file})) {n} {r} ({state} - 1) ∷ []",
     },
     "to_version_2": {
-        "answer": "countOf (toVersion2 {file} (length {out}))",
-        "out": "bytesAfter (toVersion2 {file} (length {out})) {out}",
-        "moved": "toVersion2 {file} (length {out})",
+        "answer": "count_of (to_version_2 {file} (length {out}))",
+        "out": "bytes_after (to_version_2 {file} (length {out})) {out}",
+        "moved": "to_version_2 {file} (length {out})",
     },
     "to_version_1": {
-        "answer": "countOf (toVersion1 {file} (length {out}))",
-        "out": "bytesAfter (toVersion1 {file} (length {out})) {out}",
-        "moved": "toVersion1 {file} (length {out})",
+        "answer": "count_of (to_version_1 {file} (length {out}))",
+        "out": "bytes_after (to_version_1 {file} (length {out})) {out}",
+        "moved": "to_version_1 {file} (length {out})",
     },
     "practice": {
-        "answer": "countOf (practice {states} {highest} {seed} (length {out}))",
-        "out": "bytesAfter (practice {states} {highest} {seed} (length {out})) {out}",
+        "answer": "count_of (practice {states} {highest} {seed} (length {out}))",
+        "out": "bytes_after (practice {states} {highest} {seed} (length {out})) {out}",
         "dealt": "practice {states} {highest} {seed} (length {out})",
-        "level": "outcome (practiceFile {states} {highest} {seed}) ({states} * {highest})",
+        "level": "outcome (practice_file {states} {highest} {seed}) ({states} * {highest})",
     },
     "raised": {
-        "rewarded": "withReward {file} {state} {reward}",
-        "answer": "outcome (withReward {file} {state} {reward}) (length {cells})",
-        "unchanged": "outcome (withReward {file} {state} {reward}) (length {cells})",
-        "cells": "cellsAfter (outcome (withReward {file} {state} {reward}) (length {cells})) (withReward {file} {state} {reward}) {cells}",
+        "rewarded": "with_reward {file} {state} {reward}",
+        "answer": "outcome (with_reward {file} {state} {reward}) (length {cells})",
+        "unchanged": "outcome (with_reward {file} {state} {reward}) (length {cells})",
+        "cells": "cells_after (outcome (with_reward {file} {state} {reward}) (length {cells})) (with_reward {file} {state} {reward}) {cells}",
     },
 }
 # What is said of a reward and how it is proved: the parts that are no equation.
@@ -760,9 +757,18 @@ def written(value):
     return " ∷ ".join([*map(str, value), "[]"])
 
 
+def lent_name(case, what):
+    """The name of what is lent to a case."""
+    return f"{case.name}_lent_{what}".replace("-", "_")
+
+
+def theorem_name(fact):
+    return f"{fact.case.name}_{fact.label}".replace("-", "_")
+
+
 def stated(fact):
     """What a fact says, and its proof, in antt."""
-    names = {what: f"{fact.case.name}-lent-{what}" for what in fact.case.given}
+    names = {what: lent_name(fact.case, what) for what in fact.case.given}
     if fact.part in OF_REWARD:
         says, proof = OF_REWARD[fact.part]
         return dict(says=says.format(fact.value, **names), proof=proof)
@@ -778,31 +784,25 @@ def theorems(facts):
     for case in {fact.case.name: fact.case for fact in facts}.values():
         for what, value in case.given.items():
             kind = "ℕ" if isinstance(value, int) else "List ℕ"
-            text.append(LENT.format(name=f"{case.name}-lent-{what}", type=kind, value=written(value)))
-    text += [THEOREM.format(name=fact.case.name, label=fact.label, unfolded=unfolded, **stated(fact)) for fact in facts]
+            text.append(LENT.format(name=lent_name(case, what), type=kind, value=written(value)))
+    text += [THEOREM.format(name=theorem_name(fact), unfolded=unfolded, **stated(fact)) for fact in facts]
     return "".join(text)
 
 
 # --- The prover -----------------------------------------------------------------------------------------------
 
-def rt(*words):
-    """The exit status of rt, and all that it printed."""
-    done = subprocess.run(["rt", *words], cwd=ROOT, stdout=subprocess.PIPE, stderr=subprocess.STDOUT, timeout=600, check=False)
-    return done.returncode, done.stdout.decode("utf-8", "replace")
-
-
 def check(folder, facts):
-    """What the prover says of a scratch crate that states the facts."""
-    status, said = rt("check", "definitions")
-    if status != 0:
-        sys.exit(f"{said}\ntry.py: crates/definitions is not proved")
-    crate, rlib = folder / "tried", ROOT / "target/rlib"
+    """The exit status of rt, and all that it printed, for a scratch crate that states the facts, beside a copy of crates/definitions."""
+    (folder / "crates.txt").write_text("definitions:\ntried: definitions\n", encoding="utf-8")
+    shutil.copytree(ROOT / "crates/definitions", folder / "crates/definitions", ignore=shutil.ignore_patterns("out", "must-fail"))
+    crate = folder / "crates/tried"
     (crate / "src").mkdir(parents=True)
     (crate / "specs").mkdir()
     (crate / "src/lib.rt").write_text("// No code: the theorems are in specs/.\n", encoding="utf-8")
     (crate / "specs/Lib.antt").write_text("pub mod Tried\n", encoding="utf-8")
     (crate / "specs/Tried.antt").write_text(theorems(facts), encoding="utf-8")
-    return rt("check", str(crate), "--extern", f"definitions={rlib}/definitions.rlib", "-L", f"dependency={rlib}")
+    done = subprocess.run(["rt", "check"], cwd=crate, stdout=subprocess.PIPE, stderr=subprocess.STDOUT, timeout=600, check=False)
+    return done.returncode, done.stdout.decode("utf-8", "replace")
 
 
 def errors(said):
@@ -832,23 +832,28 @@ def try_right(folder, facts):
     return False, f"{said[:3000]}\ntry.py: not proved: {', '.join(names) or 'see above'}"
 
 
+# How the prover says that two sides differ, and how it shows them computed.
+DIFFER = re.compile(r"the two types (first )?differ")
+COMPUTED = re.compile(r"computed as far as they go, the two types (?:(?:first )?differ|are `Path ).*?\(found\)", re.S)
+
+
 def try_wrong(folder, wrongs):
     """Whether every altered fact is refused, as a fact, and nothing else is; and a line to print."""
     status, said = check(folder, [fact for fact, _, _ in wrongs])
     messages = dict(errors(said))
-    numbers = {f"{fact.case.name}-{fact.label}": ((fact.case.call, fact.label), right, wrong) for fact, right, wrong in wrongs}
-    of_rewards = {f"{fact.case.name}-{fact.label}" for fact, _, _ in wrongs if fact.part in OF_REWARD}
+    numbers = {theorem_name(fact): ((fact.case.call, fact.label), right, wrong) for fact, right, wrong in wrongs}
+    of_rewards = {theorem_name(fact) for fact, _, _ in wrongs if fact.part in OF_REWARD}
     counts, seen = Counter(kind for kind, _, _ in numbers.values()), set()
     trouble = [f"{name}: an altered number was not refused" for name in numbers if name not in messages]
     for name, message in messages.items():
         if name in of_rewards and "All of that holds, and the goal fails" in message:
             seen.add(numbers[name][0])
             continue
-        if name not in numbers or "the two types differ" not in message:
+        computed = COMPUTED.search(message)
+        if name not in numbers or not (computed or DIFFER.search(message)):
             trouble.append(f"{name}: refused for another reason: {message.splitlines()[0][:300]}")
             continue
         kind, right, wrong = numbers[name]
-        computed = re.search(r"computed as far as they go.*?\(found\)", message, re.S)
         if computed and all(re.search(rf"\b{number}\b", computed.group()) for number in (right, wrong)):
             seen.add(kind)
         elif computed:
@@ -877,7 +882,7 @@ def main():
             good, line = try_right(folder, [fact for facts in tried for fact in facts])
     finally:
         if options.keep:
-            print(f"the scratch crate is {folder / 'tried'}")
+            print(f"the scratch crate is {folder / 'crates/tried'}")
         else:
             shutil.rmtree(folder)
     print(f"{line} (seed {options.seed}, {time.monotonic() - began:.0f} s)" if good else line)

@@ -3,6 +3,7 @@ use Prim.Native.Nat.{ℕ, ◌+◌, ◌*◌, ◌-◌, ◌≤◌}
 use native.Mathlib.Omega.{arith}
 use lib.ListN.{get_or}
 use Rattle.stays.specs.KeptLaws.{oldest_from, oldest_to, oldest_fine, counted, spent}
+use Rattle.stays.proofs.leave.Goals as goal
 use Rattle.stays.proofs.leave.Goals.{Start}
 
 -- the oldest stay's states are from 1 to 64, and its count and hours are in the tallies
@@ -34,3 +35,27 @@ module _ (c : Start) where
         counts = counted c.args.latest l K full;
         hours_hold = spent c.args.latest l K full;
       }
+
+pub overflow_sub-place : goal.overflow_sub-place
+overflow_sub-place c = omega (arith, facts (goal.at.overflow_sub-place c).Start)
+
+pub bounds-r-place : goal.bounds-r-place
+bounds-r-place c = omega (arith, facts (goal.at.bounds-r-place c).Start)
+
+pub overflow_sub-r-2 : goal.overflow_sub-r-2
+overflow_sub-r-2 c = omega (arith, facts (goal.at.overflow_sub-r-2 c).Start)
+
+pub bounds-r-place-2 : goal.bounds-r-place-2
+bounds-r-place-2 c = omega (arith, facts (goal.at.bounds-r-place-2 c).Start)
+
+pub overflow_sub-r-3 : goal.overflow_sub-r-3
+overflow_sub-r-3 c = omega (arith, facts (goal.at.overflow_sub-r-3 c).Start)
+
+pub bounds-r-i : goal.bounds-r-i
+bounds-r-i c = omega (arith, facts (goal.at.bounds-r-i c).Start)
+
+pub overflow_sub-r-4 : goal.overflow_sub-r-4
+overflow_sub-r-4 c = omega (arith, facts (goal.at.overflow_sub-r-4 c).Start)
+
+pub bounds-r-i-2 : goal.bounds-r-i-2
+bounds-r-i-2 c = omega (arith, facts (goal.at.bounds-r-i-2 c).Start)
