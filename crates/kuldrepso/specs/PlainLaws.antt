@@ -1,23 +1,22 @@
 -- The plain answer of a call says what its outcome says: whether it accepts, and the number.
 use Rattle.std.specs.Prelude.{ℕ, ◌+◌, ◌≤◌, ◌<◌, ◌≡◌, refl, List, length}
-use Rattle.std.proofs.Common.{arith, sym, ◌∙◌, ap, subst, lt-ltb, le-ltb}
+use Rattle.std.proofs.Common.{arith, sym, ◌∙◌, ap, lt-ltb, le-ltb}
 use Rattle.definitions.specs.declared.Rests.{Rests}
 use Rattle.definitions.specs.declared.Run.{Run}
 use Rattle.definitions.specs.Chain.{model_of}
 use Rattle.definitions.specs.Rules.{Answer, accepted, refused, saying, file_judgement}
-use Rattle.definitions.specs.Moment.{model_level, run_of, outcome, LevelBounded}
+use Rattle.definitions.specs.Moment.{model_level, run_of, outcome}
 use Rattle.definitions.specs.Series.{series_outcome}
 use Rattle.definitions.specs.Maybe.{Maybe, none, given}
 use Rattle.definitions.specs.Written.{count_of}
-use Rattle.definitions.specs.Convert.{ThereAndBack}
-use Rattle.definitions.specs.Practice.{DealtWell}
 use Rattle.laws.specs.Acceptance.{length_max, accepted_model, accepted_file, accepted_series}
-use Rattle.laws.specs.MomentLaws.{level_range, outcome_accepted, run_judged}
+use Rattle.laws.specs.MomentLaws.{outcome_accepted, run_judged}
+use Rattle.laws.proofs.MomentLaws.{level_range}
 use Rattle.laws.specs.SeriesLaws.{series_judged}
 use Rattle.kuldrepso.specs.Plain.{refusals_from, plain_answer, given_or_none, meant, Tells}
 
 -- a number that is an answer's own tells it, where that number stands for the answer
-telling : {r : ℕ} (a : Answer ℕ) → r ≡ plain_answer a → meant (plain_answer a) ≡ a → Tells r a
+pub telling : {r : ℕ} (a : Answer ℕ) → r ≡ plain_answer a → meant (plain_answer a) ≡ a → Tells r a
 telling a e m = record { number = e; meaning = ap meant e ∙ m }
 
 -- a plain number stands for its answer, where what acceptances say of what they return is below refusals_from
@@ -27,7 +26,7 @@ answer_meant f (accepted x) below = rw (lt-ltb (f x) refusals_from (below x refl
 answer_meant f (refused k) below = rw (le-ltb (refusals_from + k) refusals_from (omega arith)) (ap refused (omega arith))
 
 -- the level that a run says
-abbrev level : Run → ℕ
+abbrev pub level : Run → ℕ
 level run = run.level
 
 -- a run goes out as its level, 1 to 563
@@ -42,15 +41,8 @@ level_answer s cells run e =
     (ap (λ (a : Answer Run). plain_answer (saying level a)) e, omega (arith, number, range.0), omega (arith, number, range.1))
 
 -- so the number tells the level or the refusal: an answer below refusals_from is an acceptance, and any other a refusal
-outcome_meant : (s : List ℕ) (cells : ℕ) → meant (plain_answer (saying level (outcome s cells))) ≡ saying level (outcome s cells)
+pub outcome_meant : (s : List ℕ) (cells : ℕ) → meant (plain_answer (saying level (outcome s cells))) ≡ saying level (outcome s cells)
 outcome_meant s cells = answer_meant level (outcome s cells) (λ run e. omega (arith, (level_answer s cells run e).2))
-
-pub outcome_told : (s : List ℕ) (cells : ℕ) (a : Answer Run) → outcome s cells ≡ a → (r : ℕ) → r ≡ plain_answer (saying level a) → Tells r (saying level a)
-outcome_told s cells a e r q = telling (saying level a) q (rw e at (outcome_meant s cells))
-
--- the level's bound, as one of the number
-pub bound_meant : (s : List ℕ) (cells : ℕ) (a : Answer Run) → outcome s cells ≡ a → LevelBounded (saying level a) s → LevelBounded (meant (plain_answer (saying level a))) s
-bound_meant s cells a e bound = subst (λ (x : Answer ℕ). LevelBounded x s) (sym (rw e at (outcome_meant s cells))) bound
 
 -- a series goes out as its number of times, 1 to 8
 series_answer_lem : (s times : List ℕ) (levels cells n : ℕ) → series_outcome s times levels cells ≡ accepted n → (1 ≤ length times) × (length times ≤ 8)
@@ -79,12 +71,5 @@ count_max : (t : List ℕ) → file_judgement 1 2 t ≡ accepted tt → length t
 count_max t accepts = length_max t (accepted_model 1 2 t accepts).framed
 
 -- so the number tells the answer
-written_meant : (a : Answer (List ℕ)) → ((t : List ℕ) → a ≡ accepted t → file_judgement 1 2 t ≡ accepted tt) → meant (plain_answer (count_of a)) ≡ count_of a
+pub written_meant : (a : Answer (List ℕ)) → ((t : List ℕ) → a ≡ accepted t → file_judgement 1 2 t ≡ accepted tt) → meant (plain_answer (count_of a)) ≡ count_of a
 written_meant a accepts = answer_meant length a (λ t e. omega (arith, count_max t (accepts t e)))
-
--- that of a move, and that of dealing
-pub moved_told : (a : Answer (List ℕ)) (s : List ℕ) (back : List ℕ → ℕ → Answer (List ℕ)) → ThereAndBack a s back → (r : ℕ) → r ≡ plain_answer (count_of a) → Tells r (count_of a)
-moved_told a s back moved r q = telling (count_of a) q (written_meant a (λ t e. (subst (λ (x : Answer (List ℕ)). ThereAndBack x s back) e moved).accepts))
-
-pub dealt_told : (a : Answer (List ℕ)) (M R seed : ℕ) → DealtWell a M R seed → (r : ℕ) → r ≡ plain_answer (count_of a) → Tells r (count_of a)
-dealt_told a M R seed dealt r q = telling (count_of a) q (written_meant a (λ t e. (subst (λ (x : Answer (List ℕ)). DealtWell x M R seed) e dealt).accepts 2 (omega arith)))

@@ -5,7 +5,7 @@ use lib.ListN.{length}
 use Rattle.definitions.specs.declared.Outcome.{Outcome}
 use Rattle.definitions.specs.Moment.{outcome, answer_of}
 use Rattle.kuldrepso.specs.Plain.{plain_answer}
-use Rattle.kuldrepso.specs.PlainLaws.{outcome_told, bound_meant}
+use Rattle.kuldrepso.proofs.PlainLaws.{outcome_told, bound_meant}
 use Rattle.kuldrepso.proofs.kuldrepso_calculate.Goals as goal
 use Rattle.kuldrepso.proofs.kuldrepso_calculate.Goals.{After-calculate}
 

@@ -4,7 +4,7 @@ use native.Mathlib.Omega.{arith}
 use lib.ListN.{length}
 use Rattle.definitions.specs.Practice.{practice}
 use Rattle.kuldrepso.specs.Plain.{plain_answer}
-use Rattle.kuldrepso.specs.PlainLaws.{dealt_told}
+use Rattle.kuldrepso.proofs.PlainLaws.{dealt_told}
 use Rattle.kuldrepso.proofs.kuldrepso_practice.Goals as goal
 
 pub returns : goal.returns

@@ -4,7 +4,7 @@ use native.Mathlib.Omega.{arith}
 use lib.ListN.{length}
 use Rattle.definitions.specs.Convert.{to_version_2}
 use Rattle.kuldrepso.specs.Plain.{plain_answer}
-use Rattle.kuldrepso.specs.PlainLaws.{moved_told}
+use Rattle.kuldrepso.proofs.PlainLaws.{moved_told}
 use Rattle.kuldrepso.proofs.kuldrepso_to_version_2.Goals as goal
 
 pub returns : goal.returns
