@@ -11,7 +11,8 @@ use Rattle.definitions.specs.Chain.{Model, Listing, row_sum, uniform_rate, c, li
 use Rattle.definitions.specs.Arrows.{falling, is_added, added_states, states_in, ListsRows}
 use Rattle.laws.specs.ListLaws.{get_d_map, get_d_over}
 use Rattle.laws.specs.StoredLaws.{length_stored, get_d_stored}
-use Rattle.laws.specs.ArrowLaws.{falling_takes, falling_leaves, length_falling, row_listed, HoldsRows}
+use Rattle.laws.specs.ArrowLaws.{falling_takes, falling_leaves, length_falling, HoldsRows}
+use Rattle.laws.proofs.ArrowLaws.{row_listed}
 use Rattle.arrows.specs.Rows.{DownTo}
 
 -- what is read of the file's row is the entry of c, and is_added tells whether the row's mean adds its state

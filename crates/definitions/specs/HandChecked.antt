@@ -1,7 +1,7 @@
 -- "Hand-checked files": the ten starred entries, as one list and one statement over it, B's moments being those of document 02, S-1.
 -- Beside them, and apart from the ten, the average of B, the places "Where hand solutions go wrong", the last quotient's rounding, B with
 -- lists of times (document 02, S-3), what divisions leave (S-4), and how many row means are taken (S-8).
-use Rattle.std.specs.Prelude.{ℕ, ◌+◌, ◌<◌, List, [], ◌∷◌, ◌++◌, ◌≢◌, ◌≡◌, refl, length, set, replicate}
+use Rattle.std.specs.Prelude.{ℕ, ◌+◌, ◌<◌, List, [], ◌∷◌, ◌++◌, ◌≡◌, refl, length, set, replicate}
 use Rattle.std.proofs.Common.{arith, lit<}
 use Rattle.definitions.specs.declared.Rests.{Rests}
 use Rattle.definitions.specs.Sums.{sum, largest, any_above, firsts, over, blocks, pick}
@@ -93,9 +93,6 @@ averages_b = (record { cross = refl }, record { cross = refl })
 pub right_values : (U chain_b 1 1 1 ≡ 500000000000) × (U chain_b 1 2 0 ≡ 333333333333)
 unfolding sum largest big distributions jump_rate row_sum uniform_rate c max_reward row_mean reward_share mix next_entry first_vectors next_vectors U
 right_values = (refl, refl)
-
-pub wrong_values : (U chain_b 1 1 1 ≢ 250000000000) × (U chain_b 1 2 0 ≢ 666666666666)
-wrong_values = (omega (arith, right_values.0), omega (arith, right_values.1))
 
 -- the last quotient's rounding: quarters and thirds to the nearest, a half going up. A term of A goes down, however little it lacks.
 pub quarters : firsts 9 (λ a. nearest a 4) ≡ 0 ∷ 0 ∷ 1 ∷ 1 ∷ 1 ∷ 1 ∷ 2 ∷ 2 ∷ 2 ∷ []

@@ -37,6 +37,5 @@ pub mod OrderChecked
 pub mod PracticeChecked
 pub mod DealingChecked
 pub mod ArrowsChecked
-pub mod PromiseChecked
 pub mod StaysChecked
 pub mod SheetChecked

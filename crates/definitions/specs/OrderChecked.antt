@@ -162,9 +162,6 @@ pub past_B :
 unfolding sum largest any_above firsts over big bytes_of distributions with_reward jump_rate row_sum uniform_rate c max_reward jump_millionths framing quantities jumps room rows first_held row_mean reward_share mix next_entry first_vectors next_vectors U row_means mode rightward leftward weight weight_sum tail_bound allowance passes? first_from level term weighted nearest last_quotient weighted_mean moment figure_of cell model_level outcome cells_after
 past_B = (refl, refl)
 
-pub past_lowers : NoLower (with_reward file_b 1 2) run_b (replicate 4 0) (718750000000 ∷ 612500000000 ∷ 281250000000 ∷ 175000000000 ∷ []) → ⊥
-past_lowers h = omega (arith, h.no_lower 0, ap (λ (l : List ℕ). get_or l 0 0) past_B.1)
-
 -- the same of a list of times, in its first block
 pub past_blocks :
     NoLowerBlocks (with_reward file_b 1 2) (1 ∷ 2 ∷ []) 16 (replicate 2 0) (3 ∷ 4 ∷ []) (replicate 8 0) (718750000000 ∷ 612500000000 ∷ 281250000000 ∷ 175000000000 ∷ 628571428571 ∷ 476190476190 ∷ 371428571428 ∷ 219047619047 ∷ [])

@@ -4,7 +4,7 @@ use Rattle.std.specs.Prelude.{ℕ, suc, ◌+◌, ◌*◌, ◌/◌, ◌≤◌, Li
 use Rattle.definitions.specs.declared.Reading.{Reading}
 use Rattle.definitions.specs.declared.Reading.TheVariants as read
 use Rattle.definitions.specs.Sums.{sum, pick}
-use Rattle.definitions.specs.Rules.{Answer, accepted, refused, Rows, outside, state_row, first_held, judged_by}
+use Rattle.definitions.specs.Rules.{Answer, accepted, refused, Rows, outside, state_row, judged_by}
 
 -- "each stay: from state, to state, whole hours"
 pub record Stay : Type 0 where

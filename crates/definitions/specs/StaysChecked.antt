@@ -1,10 +1,10 @@
 -- A log and what a record of it tells, checked by hand, and calls that did otherwise.
-use Rattle.std.specs.Prelude.{ℕ, suc, List, [], ◌∷◌, ◌≡◌, refl, get_or, set, replicate}
+use Rattle.std.specs.Prelude.{ℕ, List, [], ◌∷◌, ◌≡◌, refl, get_or, replicate}
 use Rattle.std.proofs.Common.{arith, ap}
-use Rattle.definitions.specs.Sums.{sum, firsts, over, blocks, pick}
-use Rattle.definitions.specs.Rules.{Answer, accepted, refused, Rows, room, first_held, judged_by}
-use Rattle.definitions.specs.Stays.{Stay, stay_of, start_rows, stay_answer, taken, lasts, tally, goes, spends, count_in, hours_in, rate_in, Tallies, Tallied}
-use Rattle.definitions.specs.Log.{stay_at, offers, offered, log_rows, log_outcome, answers_after, rates_after, RatesFromLog}
+use Rattle.definitions.specs.Sums.{sum, firsts, over, blocks}
+use Rattle.definitions.specs.Rules.{Answer, accepted, refused, room, first_held, judged_by}
+use Rattle.definitions.specs.Stays.{Stay, stay_of, start_rows, stay_answer, taken, lasts, tally, goes, spends, count_in, hours_in, Tallies, Tallied}
+use Rattle.definitions.specs.Log.{offers, offered, log_rows, log_outcome, answers_after, rates_after, RatesFromLog}
 
 -- Three states. Oldest first: 1 to 2 after 10 hours, 2 to 1 after 4, 1 to 3 after 20; then 1 to 1, and 3 to 1 after no hour, which are refused; 1 to 2 after 30.
 abbrev pub log : List ℕ

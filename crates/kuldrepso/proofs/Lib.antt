@@ -1,2 +1,2 @@
--- The laws of what the exported calls' contracts cite.
+-- Theorems that rest on one that an edit of specs/ makes false.
 pub mod PlainLaws

@@ -1,2 +1,3 @@
--- What the exported calls' contracts cite.
+-- What the exported calls' contracts cite, and their laws.
 pub mod Plain
+pub mod PlainLaws

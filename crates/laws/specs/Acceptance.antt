@@ -7,14 +7,13 @@ use Rattle.std.proofs.Math.ListN.{length}
 use borrow.Author.Tests.{ltb-true, ltb-false, leb-false, eqb-true, eqb-false, not-false}
 use Rattle.definitions.specs.Sums.{sum, largest, any_above}
 use Rattle.definitions.specs.File.{length_field, version, state_count, highest_moment, tolerance_field, time_field, distributions, reward_field}
-use Rattle.definitions.specs.Chain.{Model, model_of, at_time, row_sum, uniform_rate, max_reward, jump_millionths, chain_of}
+use Rattle.definitions.specs.Chain.{Model, model_of, at_time, row_sum, uniform_rate, max_reward, jump_millionths}
 use Rattle.definitions.specs.Rules.{accepted, Rows, fitting_length, framing, starts_at_zero, quantities, falls_up_to, listing, last_time, jumps, room, block_size, file_rows, rows, series_rows, first_held, judged_by, file_judgement, judgement, series_judgement}
 use Rattle.definitions.specs.Series.{model_at}
 use Rattle.laws.specs.SumLaws.{any_largest}
 use Rattle.laws.specs.RuleLaws.{and_then, in_parts, NoneHold, none_hold, accepted_value, none_in_parts}
 use Rattle.laws.specs.RowLaws.{neither, in_range, with_a_time, weights_by}
-use Rattle.laws.specs.ChainLaws.{distributions_max, square_max, rate_at_lem, rate_pos, row_sums_to_rate, reward_le_largest}
-use Rattle.laws.specs.VectorLaws.{Stochastic}
+use Rattle.laws.specs.ChainLaws.{distributions_max, square_max, rate_at_lem, rate_pos}
 
 -- two numbers that do not differ
 held_equal : (x y : ℕ) → not (eqb x y) ≡ false → x ≡ y
@@ -298,7 +297,3 @@ one_time s cells f =
       block_room = omega (arith, f.room);
       level_room = omega arith;
     }
-
--- the chain of a model is one that the recurrence stays in range on
-pub stochastic : (m : Model) → Stochastic (chain_of m)
-stochastic m = record { row = λ i l. omega (arith, row_sums_to_rate m i l); reward = λ i l. reward_le_largest m i l }

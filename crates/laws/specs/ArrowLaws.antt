@@ -16,7 +16,7 @@ use Rattle.definitions.specs.Chain.{Model, Listing, jump_rate, row_sum, uniform_
 use Rattle.definitions.specs.Vectors.{row_mean, reward_share, mix, next_entry, next_vectors, U}
 use Rattle.definitions.specs.Level.{level}
 use Rattle.definitions.specs.Moment.{weighted_mean, moment, model_level}
-use Rattle.definitions.specs.Arrows.{falling, is_in, others, add_up, is_arrow, arrows, ListsArrows, is_added, added_states, ListsRow, arrow_sum, arrow_rate, arrow_entry, arrow_mean, next_by_arrows, UByArrows, level_by_arrows, moment_by_arrows, SameByArrows}
+use Rattle.definitions.specs.Arrows.{falling, is_in, others, add_up, is_arrow, arrows, ListsArrows, is_added, added_states, arrow_sum, arrow_rate, arrow_entry, arrow_mean, next_by_arrows, UByArrows, level_by_arrows, moment_by_arrows, SameByArrows}
 use Rattle.laws.specs.SumLaws.{sum_zero, sum_same, sum_none, sum_single, sum_first, sum_plus, sum_apart, largest_same}
 use Rattle.laws.specs.RowLaws.{neither, both}
 use Rattle.laws.specs.ChainLaws.{SameChain, get_d_padded}
@@ -164,7 +164,7 @@ module _ (m : Model) (i : ℕ) where
   arrows_listed = record { exactly = is_in_falling (is_arrow m i) m.states; falls = falling_falls (is_arrow m i) m.states }
 
   -- without the diagonal, the added states are the arrows
-  others_falling : (n : ℕ) → others i (falling (is_added m i) n) ≡ falling (is_arrow m i) n
+  pub others_falling : (n : ℕ) → others i (falling (is_added m i) n) ≡ falling (is_arrow m i) n
   unfolding falling others
   others_falling zero = refl
   others_falling (suc n) =
@@ -176,16 +176,6 @@ module _ (m : Model) (i : ℕ) where
       apart : (l k : List ℕ) → (n ≡ i → ⊥) → (b : Bool) → others i l ≡ k → others i (pick b (n ∷ l) l) ≡ pick b (n ∷ k) k
       apart l k ne true before = rw (ne_eqb n i ne) (ap (λ (x : List ℕ). n ∷ x) before)
       apart l k ne false before = before
-
-  -- the states that a row's mean adds, as a row that is lent to the steps
-  pub row_listed : i < m.states → ListsRow m i (added_states m i)
-  unfolding added_states arrows
-  row_listed l =
-      record {
-        the_arrows = rw (others_falling m.states) arrows_listed;
-        diagonal = is_in_falling (is_added m i) m.states i ∙ rw (lt-ltb i m.states l, eq-eqb i i refl) refl;
-        falls = falling_falls (is_added m i) m.states;
-      }
 
   -- c is 0 at a state that is not added
   entry_left_out : (j : ℕ) → is_added m i j ≡ false → c m i j ≡ 0

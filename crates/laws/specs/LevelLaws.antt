@@ -1,5 +1,5 @@
 -- The truncation level: the computed one is the least n that passes both tests, and it is at most 2m + 51.
-use Rattle.std.specs.Prelude.{ℕ, zero, suc, ◌+◌, ◌*◌, ◌-◌, ◌/◌, ◌≤◌, ◌<◌, ◌≡◌, refl, Bool, true, false, ◌&&◌, leb}
+use Rattle.std.specs.Prelude.{ℕ, zero, suc, ◌+◌, ◌*◌, ◌-◌, ◌/◌, ◌≤◌, ◌≡◌, refl, Bool, true, false, leb}
 use Rattle.std.proofs.Common.{arith, mul-le-mul_left, le_refl, leb-true, le-leb}
 use Rattle.std.proofs.Math.Nat.{mul-le-mul}
 use Rattle.definitions.specs.Weights.{MILLION, mode, weight, weight_sum}
@@ -84,9 +84,6 @@ module _ (X ε : ℕ) (jumps_max : X ≤ 256000000) (tolerance_pos : 1 ≤ ε) w
   -- the level is at most 2m + 51, so at most 563
   pub level_last : level X ε ≤ last_level X
   level_last = level_found.within
-
-  pub level_max : level X ε < LEVELS
-  level_max = omega (arith, level_last, mode_low X)
 
   -- the level is not below m
   pub level_mode : mode X ≤ level X ε

@@ -26,10 +26,8 @@ pub mod TailBound
 pub mod AverageBound
 pub mod MomentLaws
 pub mod StartLaws
-pub mod Demand3
 pub mod OrderLaws
 pub mod SeriesLaws
-pub mod RewardLaws
 pub mod RemainderLaws
 pub mod WrittenLaws
 pub mod MovedLaws
@@ -39,4 +37,3 @@ pub mod DealingLaws
 pub mod StayLaws
 pub mod LogLaws
 pub mod SheetLaws
-pub mod Proved

@@ -1,21 +1,20 @@
 -- A whole log in one call: its stays one by one, what its table says, and the claim from what is left in the cells.
-use Rattle.std.specs.Prelude.{ℕ, zero, suc, ◌+◌, ◌*◌, ◌-◌, ◌/◌, ◌%◌, ◌≤◌, ◌<◌, false, not, ◌||◌, refl, length, take, eqb, ltb}
-use Rattle.std.proofs.Common.{arith, sym, ap₂, ◌∙◌, lt-ltb, le-ltb, eq-eqb, ne_eqb, ltb-false, eqb-true}
+use Rattle.std.specs.Prelude.{ℕ, zero, suc, ◌+◌, ◌*◌, ◌-◌, ◌/◌, ◌%◌, ◌≤◌, ◌<◌, false, not, refl, length, take, eqb, ltb}
+use Rattle.std.proofs.Common.{arith, sym, ◌∙◌, lt-ltb, le-ltb, eq-eqb, ne_eqb, ltb-false}
 use Rattle.std.proofs.Math.Numerals.{add-one}
 use Rattle.std.proofs.Math.Decide.{ℕ_discrete, dec_lt}
 use mathlib.Core.List.{List, [], ◌∷◌, ◌++◌}
 use Rattle.std.proofs.Math.Path.{◌≡◌, ap}
 use Rattle.std.proofs.Math.ListN.{get_or}
 use Rattle.std.proofs.Math.Seq.{get_or-take}
-use Rattle.std.proofs.lemmas.Bool.{not-false}
-use Rattle.definitions.specs.Sums.{sum, any_above, over, blocks}
-use Rattle.definitions.specs.File.{state_count, place, rate_field}
+use Rattle.definitions.specs.Sums.{sum, any_above, blocks}
+use Rattle.definitions.specs.File.{state_count, place}
 use Rattle.definitions.specs.Chain.{model_of, jump_rate, row_sum}
-use Rattle.definitions.specs.Rules.{Answer, accepted, refused, room, first_held, judged_by}
+use Rattle.definitions.specs.Rules.{Answer, accepted, refused, room, judged_by}
 use Rattle.definitions.specs.Fields.{fields_of}
 use Rattle.definitions.specs.Stays.{Stay, start_rows, stay_answer, taken, lasts, rate_in}
-use Rattle.definitions.specs.Log.{stay_at, offers, stay_count, offered, most_stays, size_row, log_rows, log_outcome, answer_number, answers_after, state_at, rates_after, RatesFromLog}
-use Rattle.laws.specs.Rounding.{place_below, quotient_below}
+use Rattle.definitions.specs.Log.{stay_at, offers, offered, most_stays, size_row, log_rows, log_outcome, answers_after, state_at, rates_after, RatesFromLog}
+use Rattle.laws.specs.Rounding.{place_below}
 use Rattle.laws.specs.SumLaws.{sum_mono, largest_le}
 use Rattle.laws.specs.ListLaws.{get_d_over}
 use Rattle.laws.specs.BlockLaws.{get_d_blocks}

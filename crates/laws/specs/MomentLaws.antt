@@ -4,21 +4,16 @@ use Rattle.std.proofs.Common.{arith, le_antisymm, mul-le-mul, mul-le-mul_left, m
 use Rattle.definitions.specs.declared.Run.{Run}
 use Rattle.definitions.specs.Sums.{over}
 use Rattle.definitions.specs.Division.{Rounds}
-use Rattle.definitions.specs.Chain.{Model, model_of, jump_millionths, block_of}
+use Rattle.definitions.specs.Chain.{Model, model_of, block_of}
 use Rattle.definitions.specs.Vectors.{ONE}
-use Rattle.definitions.specs.Weights.{mode, weight, weight_sum}
-use Rattle.definitions.specs.Level.{last_level}
-use Rattle.definitions.specs.Moment.{term, weighted, last_quotient, weighted_mean, moment, start_figure, cell_of, figure_of, cell, model_level, run_of, outcome}
+use Rattle.definitions.specs.Weights.{weight, weight_sum}
+use Rattle.definitions.specs.Moment.{term, weighted, last_quotient, weighted_mean, moment, start_figure, cell_of, figure_of, cell, run_of, outcome}
 use Rattle.definitions.specs.Rules.{accepted, refused, rows, judgement}
 use Rattle.laws.specs.Rounding.{quotient_at_most, quotient_mono, quotient_below, quotient_unique, remainder_below, remainder_unique, row_of_place, place_in_row, place_below}
-use Rattle.laws.specs.Nearest.{nearest_within, nearest_at_most, nearest_mono, nearest_up, nearest_down, nearest_rounds}
+use Rattle.laws.specs.Nearest.{nearest_at_most, nearest_mono, nearest_up, nearest_down, nearest_rounds}
 use Rattle.laws.specs.SumLaws.{sum_mono}
 use Rattle.laws.specs.RuleLaws.{also_refused, also_accepted}
 use Rattle.laws.specs.ListLaws.{get_d_over}
-use Rattle.laws.specs.WeightLaws.{weight_sum_min}
-use Rattle.laws.specs.Acceptance.{WithinLimits}
-use Rattle.laws.specs.LevelLaws.{level_is, level_last, level_max}
-use Rattle.laws.specs.AverageBound.{LastQuotient}
 
 -- the r and the state of a cell below M × R are within R and M
 pub row_of_cell : (k R : ℕ) → 1 ≤ R → k % R + 1 ≤ R
@@ -100,32 +95,6 @@ last_none S pos =
 pub last_rounds : (A S : ℕ) → 0 < S → Rounds (A * ONE) S (last_quotient A S) (A * ONE % S)
 unfolding last_quotient
 last_rounds A S pos = nearest_rounds (A * ONE) S pos
-
--- it is within one tick and in [0, 1]
-pub last_within : (X N : ℕ) (u : ℕ → ℕ) → mode X ≤ N → ((n : ℕ) → n ≤ N → u n ≤ ONE) → LastQuotient (weighted X u N) (weight_sum X N) (weighted_mean X u N)
-unfolding weighted_mean last_quotient
-last_within X N u reached h =
-    let A : ℕ = weighted X u N in
-    let S : ℕ = weight_sum X N in
-    let pos : 0 < S = omega (arith, weight_sum_min X N reached) in
-    let half = nearest_within (A * ONE) S pos in
-    record {
-      low = omega (arith, half.above);
-      high = omega (arith, half.below);
-      top = last_max A S pos (weighted_max X N u h);
-    }
-
--- the level of a model within its limits is 1 to 563
-pub level_range : (m : Model) → WithinLimits m → (1 ≤ model_level m) × (model_level m ≤ 563)
-unfolding model_level
-level_range m g =
-    let X : ℕ = jump_millionths m in
-    (omega (arith, (level_is X m.tolerance g.jumps_max g.tolerance_pos).passes.past, g.jumps_pos), omega (arith, level_max X m.tolerance g.jumps_max g.tolerance_pos))
-
--- and at most 2m + 51
-pub level_bounded : (m : Model) → WithinLimits m → model_level m ≤ last_level (jump_millionths m)
-unfolding model_level
-level_bounded m g = level_last (jump_millionths m) m.tolerance g.jumps_max g.tolerance_pos
 
 -- the outcome of a refused file, and of an accepted one
 pub outcome_refused : (s : List ℕ) (cells k : ℕ) → judgement s cells ≡ refused k → outcome s cells ≡ refused k

@@ -1,6 +1,6 @@
 -- What the divisions of U(n,r) leave: quotient, divisor and remainder of each, and when a call gives them.
 use Rattle.std.specs.Prelude.{ℕ, zero, suc, ◌+◌, ◌*◌, ◌-◌, ◌/◌, ◌%◌, ◌≤◌, ◌<◌, ◌≡◌, refl, Bool, true, false, ◌||◌, List}
-use Rattle.std.proofs.Common.{arith, ◌∙◌, ap, ap₂}
+use Rattle.std.proofs.Common.{arith, ap, ap₂}
 use Rattle.definitions.specs.declared.Rests.{Rests}
 use Rattle.definitions.specs.Chain.{Model, Chain, model_of, chain_of}
 use Rattle.definitions.specs.Rules.{Answer, accepted, refused, outside, file_rows, file_judgement}

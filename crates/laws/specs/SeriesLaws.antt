@@ -1,4 +1,4 @@
--- Document 02, S-3: each level and each block of a series is that of a run of the file with that time alone, and demand 3 holds of it.
+-- Document 02, S-3: each level and each block of a series is that of a run of the file with that time alone. That demand 3 holds of it is shown in proofs/.
 use Rattle.std.specs.Prelude.{ℕ, ◌+◌, ◌*◌, ◌≤◌, ◌<◌, ◌^◌, ◌≡◌, refl, length, get_or, drop}
 use Rattle.std.proofs.Common.{arith, le_refl, mul-le-mul_right, sym, ◌∙◌, subst, length-drop, length-take-le, le-ltb, ne_eqb}
 use Rattle.std.proofs.Math.Path.{ap}
@@ -9,8 +9,7 @@ use Rattle.definitions.specs.File.{state_count, tolerance_field, time_field, dis
 use Rattle.definitions.specs.Chain.{Model, model_of, at_time, jump_rate, row_sum, uniform_rate, block_of}
 use Rattle.definitions.specs.Rules.{accepted, refused, framing, quantities, jumps, room, block_size, rows, series_rows, judgement, series_judgement}
 use Rattle.definitions.specs.Moment.{cell, model_level, run_to, run_of, cells_after}
-use Rattle.definitions.specs.Promise.{Promise}
-use Rattle.definitions.specs.Series.{model_at, level_at, means_of_all, series_outcome, levels_after, blocks_after, block, IsRun, AreRuns, SeriesPromised, LevelsBounded}
+use Rattle.definitions.specs.Series.{model_at, level_at, means_of_all, series_outcome, levels_after, blocks_after, block, IsRun, AreRuns}
 use Rattle.laws.specs.RuleLaws.{NoneHold, all_pass, none_together, also_refused, also_accepted}
 use Rattle.laws.specs.ListLaws.{get_d_over}
 use Rattle.laws.specs.ByteLaws.{big_stored, number_before, number_after_lem}
@@ -18,8 +17,7 @@ use Rattle.laws.specs.FrameLaws.{SameFrame, states_same, highest_same, distribut
 use Rattle.laws.specs.BlockLaws.{block_end, block_is}
 use Rattle.laws.specs.ChainLaws.{rate_at_lem, rate_pos}
 use Rattle.laws.specs.Acceptance.{AcceptedSeries, SeriesRows, series_rows_lem, time_within, accepted_series}
-use Rattle.laws.specs.MomentLaws.{outcome_accepted, level_bounded}
-use Rattle.laws.specs.Demand3.{demand3}
+use Rattle.laws.specs.MomentLaws.{outcome_accepted}
 
 -- the file s with the time T
 module _ (s : List ℕ) (T : ℕ) where
@@ -112,26 +110,26 @@ module _ (s times levels cells : List ℕ) (passed : series_judgement s times (l
   f : AcceptedSeries s times (length levels) (length cells)
   f = accepted_series s times (length levels) (length cells) passed
 
-  judged : judgement (with_time s (get_or times k 0)) (block_size s) ≡ accepted tt
+  pub judged : judgement (with_time s (get_or times k 0)) (block_size s) ≡ accepted tt
   judged = run_accepted s times (length levels) (length cells) (series_rows_lem s times (length levels) (length cells) passed) f k h
 
   is_model : model_of (with_time s (get_or times k 0)) ≡ model_at s times k
   is_model = model_run s times (length levels) (length cells) (series_rows_lem s times (length levels) (length cells) passed) f k h
 
   -- level k of the series, whatever is counted
-  level_in : (n : ℕ) → get_or (levels_after (accepted n) s times levels) k 0 ≡ model_level (model_of (with_time s (get_or times k 0)))
+  pub level_in : (n : ℕ) → get_or (levels_after (accepted n) s times levels) k 0 ≡ model_level (model_of (with_time s (get_or times k 0)))
   unfolding levels_after level_at
   level_in n = get_d_over 0 (length times) (level_at s times) levels k h ∙ ap model_level (sym is_model)
 
   -- block k of the series
-  block_in : (n : ℕ) → block s (blocks_after (accepted n) s times cells) k ≡ cells_after (accepted (run_of (model_of (with_time s (get_or times k 0))))) (with_time s (get_or times k 0)) (block s cells k)
+  pub block_in : (n : ℕ) → block s (blocks_after (accepted n) s times cells) k ≡ cells_after (accepted (run_of (model_of (with_time s (get_or times k 0))))) (with_time s (get_or times k 0)) (block s cells k)
   unfolding blocks_after cells_after level_at
   block_in n =
       block_is (block_size s) 0 (length times) (λ j. cell (model_at s times j) (level_at s times j)) cells k h f.block_room
       ∙ ap (λ (m : Model). over (block_of m) (cell m (model_level m)) (block s cells k)) (sym is_model)
 
   -- what is lent of the cells for a block
-  size : length (block s cells k) ≡ block_size s
+  pub size : length (block s cells k) ≡ block_size s
   size = length-take-le (block_size s) (drop (k * block_size s) cells) (omega (arith, f.block_room, block_end k (length times) (block_size s) h, length-drop (k * block_size s) cells))
 
   is_run : (n : ℕ) → IsRun (with_time s (get_or times k 0)) (get_or (levels_after (accepted n) s times levels) k 0) (block s cells k) (block s (blocks_after (accepted n) s times cells) k)
@@ -139,22 +137,9 @@ module _ (s times levels cells : List ℕ) (passed : series_judgement s times (l
       let answer = rw (← size) at (outcome_accepted (with_time s (get_or times k 0)) (block_size s) judged) in
       record { same_level = answer ∙ ap (λ (N : ℕ). accepted (run_to (model_of (with_time s (get_or times k 0))) N)) (sym (level_in n)); same_block = rw answer (sym (block_in n)) }
 
-  promise : (n : ℕ) → Promise (with_time s (get_or times k 0)) (get_or (levels_after (accepted n) s times levels) k 0) (block s (blocks_after (accepted n) s times cells) k)
-  promise n = rw (level_in n, block_in n) (demand3 (with_time s (get_or times k 0)) (block s cells k) (rw size judged))
-
 -- document 02's sentence, for every accepted list: each level and block is that of a run
 pub series_runs : (s times levels cells : List ℕ) (n : ℕ) → series_judgement s times (length levels) (length cells) ≡ accepted tt → AreRuns (accepted n) s times (levels_after (accepted n) s times levels) cells (blocks_after (accepted n) s times cells)
 series_runs s times levels cells n passed k h = is_run s times levels cells passed k h n
-
--- demand 3 holds of it
-pub series_promised : (s times levels cells : List ℕ) (n : ℕ) → series_judgement s times (length levels) (length cells) ≡ accepted tt → SeriesPromised (accepted n) s times (levels_after (accepted n) s times levels) (blocks_after (accepted n) s times cells)
-series_promised s times levels cells n passed k h = promise s times levels cells passed k h n
-
--- and its level is at most 2m + 51 (S-8)
-pub series_bounded : (s times levels : List ℕ) (cells n : ℕ) → series_judgement s times (length levels) cells ≡ accepted tt → LevelsBounded (accepted n) s times (levels_after (accepted n) s times levels)
-unfolding levels_after level_at
-series_bounded s times levels cells n passed k h =
-    rw (get_d_over 0 (length times) (level_at s times) levels k h) (level_bounded (model_at s times k) ((accepted_series s times (length levels) cells passed).limits k h))
 
 -- the outcome of a refused list, and of an accepted one
 pub series_refused : (s times : List ℕ) (levels cells k : ℕ) → series_judgement s times levels cells ≡ refused k → series_outcome s times levels cells ≡ refused k

@@ -117,13 +117,13 @@ widen : {v e d : ℕ} (b : ℕ) (x : Fraction) → e ≤ b → Near v e d x → 
 widen {v} {e} b x h n = record { low = n.low; high = high_more (v + b) x (omega arith) n.high; top = n.top }
 
 module _ (ch : Chain) (p : Proper ch) (s : Stochastic ch) where
-  first_near : (r i : ℕ) → i < ch.states → Near (U ch 0 r i) (2 * (0 + r)) ONE (exact_u ch p 0 r i)
+  pub first_near : (r i : ℕ) → i < ch.states → Near (U ch 0 r i) (2 * (0 + r)) ONE (exact_u ch p 0 r i)
   unfolding U first_vectors exact_u exact_first
   first_near zero i l = record { low = record { low = omega arith }; high = record { high = omega arith }; top = record { high = omega arith } }
   first_near (suc r) i l =
       widen (2 * (0 + suc r)) _ (omega arith) (share_near ch p s (U ch 0 r i) (2 * (0 + r)) ONE i (exact_u ch p 0 r i) l (first_near r i l))
 
-  next_near : (n : ℕ) → ((r j : ℕ) → j < ch.states → Near (U ch n r j) (2 * (n + r)) ONE (exact_u ch p n r j)) → (r i : ℕ) → i < ch.states → Near (U ch (suc n) r i) (2 * (suc n + r)) ONE (exact_u ch p (suc n) r i)
+  pub next_near : (n : ℕ) → ((r j : ℕ) → j < ch.states → Near (U ch n r j) (2 * (n + r)) ONE (exact_u ch p n r j)) → (r i : ℕ) → i < ch.states → Near (U ch (suc n) r i) (2 * (suc n + r)) ONE (exact_u ch p (suc n) r i)
   unfolding U next_vectors next_entry exact_u exact_next
   next_near n h zero i l = record { low = record { low = omega arith }; high = record { high = omega arith }; top = record { high = omega arith } }
   next_near n h (suc r) i l =
@@ -131,8 +131,3 @@ module _ (ch : Chain) (p : Proper ch) (s : Stochastic ch) where
       let same = share_near ch p s (U ch (suc n) r i) (2 * (suc n + r)) ONE i (exact_u ch p (suc n) r i) l (next_near n h r i l) in
       let e = 2 * (suc n + r) + 1 in
       widen (2 * (suc n + suc r)) _ (omega arith) (mix_near (suc n) r _ _ e ONE _ _ (widen e _ (omega arith) before) same)
-
-  -- U ≤ ONE·u ≤ U + 2(n + r), and u ≤ 1
-  pub vector_near : (n r i : ℕ) → i < ch.states → Near (U ch n r i) (2 * (n + r)) ONE (exact_u ch p n r i)
-  vector_near zero = first_near
-  vector_near (suc n) = next_near n (vector_near n)

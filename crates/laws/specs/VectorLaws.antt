@@ -8,7 +8,7 @@ use Rattle.definitions.specs.Chain.{Chain}
 use Rattle.definitions.specs.Vectors.{ONE, row_total, row_mean, reward_share, mix, next_entry, first_vectors, next_vectors, U, row_means}
 use Rattle.laws.specs.Rounding.{quotient_high, quotient_at_most, quotient_mono, quotient_below}
 use Rattle.laws.specs.SumLaws.{sum_mono, sum_times, sum_constant}
-use Rattle.laws.specs.ChainLaws.{SameChain, itself, the_other_way, Raised, same_raised}
+use Rattle.laws.specs.ChainLaws.{SameChain, the_other_way, Raised, same_raised}
 
 -- U(n,0) is ONE everywhere
 pub U_zero : (ch : Chain) (n i : ℕ) → U ch n 0 i ≡ ONE
@@ -147,30 +147,9 @@ mix_falls n r v w v' w' hv hw hy =
           quotient_at_most (n * v' + suc r * w') y (n + suc r) (omega (arith, hy, ap (λ (k : ℕ). k * v') n0, ap (λ (k : ℕ). k * w') r0, ap (λ (k : ℕ). y * k) n0, ap (λ (k : ℕ). y * k) r0))
     ]
 
--- the next entry for r + 1 is at most that for r, on any chain: where the vector of n − 1 is no larger than it was for r, and what the share is taken of is
--- no larger than it was, and at most that entry. The share of a number is at most the number, where f is at most F.
-pub next_entry_falls : (ch : Chain) (n r : ℕ) (v w v' w' : ℕ → ℕ) (i : ℕ) → ch.reward i ≤ ch.largest_reward → ((j : ℕ) → j < ch.states → v' j ≤ v j) → w' i ≤ w i → w' i ≤ next_entry ch n r v w i → next_entry ch n (suc r) v' w' i ≤ next_entry ch n r v w i
-unfolding next_entry row_mean reward_share
-next_entry_falls ch n r v w v' w' i f hv hw here =
-    mix_falls n r _ _ _ _
-    (quotient_mono (row_total ch v' i) (row_total ch v i) ch.rate (sum_mono ch.states (λ j. ch.entry i j * v' j) (λ j. ch.entry i j * v j) (λ j k. mul-le-mul_left (ch.entry i j) (hv j k))))
-    (quotient_mono (ch.reward i * w' i) (ch.reward i * w i) ch.largest_reward (mul-le-mul_left (ch.reward i) hw))
-    (le_trans (reward_share_bound ch (w' i) (w' i) i f (le_refl (w' i))) here)
-
 -- U(n,r+1) ≤ U(n,r) at every state
-U_falls_first : (ch : Chain) → Stochastic ch → (r i : ℕ) → i < ch.states → U ch 0 (suc r) i ≤ U ch 0 r i
+pub U_falls_first : (ch : Chain) → Stochastic ch → (r i : ℕ) → i < ch.states → U ch 0 (suc r) i ≤ U ch 0 r i
 U_falls_first ch s r i l = rw U_first (reward_share_bound ch (U ch 0 r i) (U ch 0 r i) i (s.reward i l) (le_refl _))
-
-U_falls_next : (ch : Chain) → Stochastic ch → (n : ℕ) → ((r j : ℕ) → j < ch.states → U ch n (suc r) j ≤ U ch n r j) → (r i : ℕ) → i < ch.states → U ch (suc n) (suc r) i ≤ U ch (suc n) r i
-U_falls_next ch s n h zero i l = rw (U_zero ch (suc n)) (U_bound ch s (suc n) 1 i l)
-U_falls_next ch s n h (suc r) i l =
-    let before = U_next ch n r i in
-    omega
-    (arith, before, U_next ch n (suc r) i, next_entry_falls ch (suc n) (suc r) (U ch n (suc r)) (U ch (suc n) r) (U ch n (suc (suc r))) (U ch (suc n) (suc r)) i (s.reward i l) (h (suc r)) (U_falls_next ch s n h r i l) (omega (arith, before)))
-
-pub U_falls : (ch : Chain) → Stochastic ch → (n r i : ℕ) → i < ch.states → U ch n (suc r) i ≤ U ch n r i
-U_falls ch s zero = U_falls_first ch s
-U_falls ch s (suc n) = U_falls_next ch s n (U_falls ch s n)
 
 -- the row means up to N are one for each n from 1 to N, each state and each r
 pub one_for_each : (N M R : ℕ) → row_means N M R ≡ sum N (λ n. sum M (λ i. sum R (λ r. 1)))

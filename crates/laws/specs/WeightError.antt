@@ -12,7 +12,6 @@ use Rattle.definitions.specs.Fraction.{ratio, power}
 use Rattle.definitions.specs.Average.{factorial, exact_weight, million_pos}
 use Rattle.laws.specs.Rounding.{quotient_low, quotient_high}
 use Rattle.laws.specs.WeightLaws.{mode_low, mode_high, weight_mode, weight_right, weight_left}
-use Rattle.laws.specs.FractionLaws.{Low, High}
 
 -- the divisors of the steps from n to n + k, multiplied: (n+1)·1,000,000 × … × (n+k)·1,000,000
 unfoldable pub steps : ℕ → ℕ → ℕ
@@ -56,17 +55,11 @@ module _ (X : ℕ) where
       rw (one, add-one) (z_at_next n (L - suc n))
 
   -- the exact weight of n is z(n) over the common divisor
-  over_divisor : (L n : ℕ) → n ≤ L → z L n * (exact_weight X n).den ≡ (exact_weight X n).num * divisor L
+  pub over_divisor : (L n : ℕ) → n ≤ L → z L n * (exact_weight X n).den ≡ (exact_weight X n).num * divisor L
   unfolding z z_at
   over_divisor L n h =
       let reach : n + (L - n) ≡ L = omega arith in
       omega (arith, ap (λ (v : ℕ). (exact_weight X n).num * v) (divisor_steps n (L - n) ∙ ap divisor reach))
-
-  pub exact_low : (L n : ℕ) → n ≤ L → Low (z L n) (divisor L) (exact_weight X n)
-  exact_low L n h = record { low = omega (arith, over_divisor L n h) }
-
-  pub exact_high : (L n : ℕ) → n ≤ L → High (z L n) (divisor L) (exact_weight X n)
-  exact_high L n h = record { high = omega (arith, over_divisor L n h) }
 
   -- no exact weight is 0
   steps_pos : (n k : ℕ) → 0 < steps n k

@@ -16,7 +16,8 @@ use Rattle.laws.specs.StoredLaws.{length_stored, get_d_stored}
 use Rattle.laws.specs.BlockLaws.{blocks_same, blocks_again}
 use Rattle.laws.specs.VectorLaws.{U_bound}
 use Rattle.laws.specs.WeightLaws.{weight_max, weight_sum_min, weight_sum_max}
-use Rattle.laws.specs.LevelLaws.{LEVELS, level_max, level_mode}
+use Rattle.laws.specs.LevelLaws.{LEVELS, level_mode}
+use Rattle.laws.proofs.LevelLaws.{level_max}
 use Rattle.laws.specs.MomentLaws.{state_of_cell, weighted_max, last_none}
 use Rattle.means.specs.Running.{row_from, part_sum, part_sums, Topmost, Summable, AllDivisible}
 use Rattle.means.specs.RunningLaws.{in_states, past_states, length_sums, sums_at}

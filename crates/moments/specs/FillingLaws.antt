@@ -25,7 +25,7 @@ use Rattle.laws.specs.VectorLaws.{U_same}
 use Rattle.laws.specs.ArrowLaws.{arrays_same}
 use Rattle.laws.specs.MomentLaws.{weighted_mean_same, state_of_cell, figure_of_state, figure_of_start}
 use Rattle.laws.specs.StartLaws.{mean_same}
-use Rattle.laws.specs.Demand3.{moment_max}
+use Rattle.laws.proofs.Demand3.{moment_max}
 use Rattle.laws.specs.Acceptance.{WithinLimits, AcceptedSeries, block_max}
 use Rattle.vectors.specs.ModelLaws.{held_ready}
 use Rattle.start.specs.Figures.{start_cell, Distribution, AllMoments}

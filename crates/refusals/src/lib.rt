@@ -39,10 +39,10 @@ pub fn outside(low: u64, high: u64, x: u64) -> bool
 pub fn judge_states(states: u64) -> Judgement
     ensures { verdict result ≡ judged_by (state_row states) }
 {
-    if outside(1, MOST_STATES, states) {
-        return Judgement::Refused(4);
+    if !outside(1, MOST_STATES, states) {
+        return Judgement::Accepted;
     }
-    Judgement::Accepted
+    Judgement::Refused(4)
 }
 
 // Rows 4 and 5: M and R.

@@ -8,7 +8,8 @@ use Rattle.laws.specs.SumLaws.{sum_same}
 use Rattle.laws.specs.ChainLaws.{SameChain, rate_at_lem, sizes_at}
 use Rattle.laws.specs.ArrowLaws.{HoldsRows, count_max, target_max, arrays_same}
 use Rattle.laws.specs.VectorLaws.{Stochastic}
-use Rattle.laws.specs.Acceptance.{WithinLimits, stochastic}
+use Rattle.laws.specs.Acceptance.{WithinLimits}
+use Rattle.laws.proofs.Acceptance.{stochastic}
 use Rattle.vectors.specs.Ready.{Ready}
 
 -- a chain that agrees with one in range is in range

@@ -1,10 +1,18 @@
--- The plain number is that of the answer of the call.
-use Rattle.std.proofs.Common.{◌∙◌, ap, length}
+-- The plain number is that of the answer; the bytes, and what is promised of the file, are those of the call.
+use mathlib.Core.Path.{ap}
+use native.Mathlib.Omega.{arith}
+use lib.ListN.{length}
 use Rattle.definitions.specs.Practice.{practice}
 use Rattle.kuldrepso.specs.Plain.{plain_answer}
 use Rattle.kuldrepso.proofs.PlainLaws.{dealt_told}
 use Rattle.kuldrepso.proofs.kuldrepso_practice.Goals as goal
 
-pub returns-clause-answer : goal.returns-clause-answer
-returns-clause-answer c =
-    dealt_told (practice c.args.states c.args.highest c.args.seed (length c.args.out.now)) _ _ _ c.practice.ensures.dealt _ (c.plain.ensures ∙ ap plain_answer c.practice.ensures.answer)
+pub returns : goal.returns
+returns c =
+    let called = c.practice.ensures in
+    let args = c.args in
+    record {
+      answer = dealt_told (practice args.states args.highest args.seed (length args.out.now)) _ _ _ called.dealt _ (omega (arith, c.plain.ensures, ap plain_answer called.answer));
+      bytes = called.bytes;
+      dealt = called.dealt;
+    }

@@ -1,16 +1,52 @@
--- Each arm returns the plain number of the outcome.
-use Rattle.std.proofs.Common.{ℕ, ap, refl, length}
-use Rattle.definitions.specs.Rules.{Answer, saying}
+-- Each arm returns the plain number of the answer, and leaves the count that it says; the rest is as the call has it.
+use mathlib.Core.Path.{◌≡◌, ◌∙◌, sym, ap}
+use native.Mathlib.Omega.{arith}
+use lib.ListN.{length}
+use Rattle.definitions.specs.declared.Series.{Series}
+use Rattle.definitions.specs.Series.{series_outcome, series_answer}
 use Rattle.kuldrepso.specs.Plain.{plain_answer}
-use Rattle.kuldrepso.proofs.PlainLaws.{series_told}
+use Rattle.kuldrepso.specs.PlainLaws.{series_told}
 use Rattle.kuldrepso.proofs.kuldrepso_series.Goals as goal
+use Rattle.kuldrepso.proofs.kuldrepso_series.Goals.{After-series}
 
-pub returns-in-Solved-clause-answer : goal.returns-in-Solved-clause-answer
-unfolding plain_answer
-returns-in-Solved-clause-answer c =
-    series_told _ _ _ _ _ refl _ (ap (λ (a : Answer ℕ). plain_answer (saying (λ n. length c.args.times.now) a)) c.in-Solved.ensures.answer)
+-- the outcome, as the case of the enum that an arm has
+answered : (c : After-series) (o : Series) → c.series.result ≡ o →
+    let args = c.args in
+    series_outcome args.file.now args.times.now (length args.levels.now) (length args.cells.now) ≡ series_answer o
+answered c o told = sym c.series.ensures.answer ∙ ap series_answer told
 
-pub returns-in-Refused-clause-answer : goal.returns-in-Refused-clause-answer
+pub returns-in-Solved : goal.returns-in-Solved
 unfolding plain_answer
-returns-in-Refused-clause-answer c =
-    series_told _ _ _ _ _ refl _ (ap (λ (a : Answer ℕ). plain_answer (saying (λ n. length c.args.times.now) a)) c.in-Refused.ensures.answer)
+returns-in-Solved c =
+    let told = c.in-Solved.is in
+    let call = c.series.ensures in
+    let same = answered (goal.at.returns-in-Solved c).After-series _ told in
+    rw same (record {
+      answer = series_told _ _ _ _ _ same _ (omega arith);
+      levels = rw told at call.levels;
+      cells = rw told at call.cells;
+      promise = rw told at call.promise;
+      runs = rw told at call.runs;
+      bounded = rw told at call.bounded;
+      order = rw told at call.order;
+      raised = rw told at call.raised;
+      means = omega arith;
+    })
+
+pub returns-in-Refused : goal.returns-in-Refused
+unfolding plain_answer
+returns-in-Refused c =
+    let told = c.in-Refused.is in
+    let call = c.series.ensures in
+    let same = answered (goal.at.returns-in-Refused c).After-series _ told in
+    rw same (record {
+      answer = series_told _ _ _ _ _ same _ (omega arith);
+      levels = rw told at call.levels;
+      cells = rw told at call.cells;
+      promise = rw told at call.promise;
+      runs = rw told at call.runs;
+      bounded = rw told at call.bounded;
+      order = rw told at call.order;
+      raised = rw told at call.raised;
+      means = omega arith;
+    })

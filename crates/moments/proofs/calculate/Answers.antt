@@ -8,10 +8,11 @@ use Rattle.definitions.specs.Moment.{cells_after, LevelBounded}
 use Rattle.definitions.specs.Promise.{Promised}
 use Rattle.definitions.specs.Order.{NoRise}
 use Rattle.laws.specs.Acceptance.{accepted_file}
-use Rattle.laws.specs.MomentLaws.{outcome_refused, outcome_accepted, level_bounded}
-use Rattle.laws.specs.Demand3.{demand3}
-use Rattle.laws.specs.OrderLaws.{none_rises}
-use Rattle.laws.specs.RewardLaws.{none_lowered}
+use Rattle.laws.specs.MomentLaws.{outcome_refused, outcome_accepted}
+use Rattle.laws.proofs.MomentLaws.{level_bounded}
+use Rattle.laws.proofs.Demand3.{demand3}
+use Rattle.laws.proofs.OrderLaws.{none_rises}
+use Rattle.laws.proofs.RewardLaws.{none_lowered}
 use Rattle.moments.proofs.calculate.Goals as goal
 
 pub fill_own-requires : goal.fill_own-requires

@@ -6,9 +6,10 @@ use Rattle.definitions.specs.Rules.{accepted, series_judgement, verdict}
 use Rattle.definitions.specs.Series.{levels_after, blocks_after}
 use Rattle.definitions.specs.Order.{NoBlockRises}
 use Rattle.laws.specs.Acceptance.{accepted_series}
-use Rattle.laws.specs.SeriesLaws.{series_runs, series_promised, series_bounded, series_refused, series_accepted}
-use Rattle.laws.specs.OrderLaws.{no_block_rises}
-use Rattle.laws.specs.RewardLaws.{no_block_lowered}
+use Rattle.laws.specs.SeriesLaws.{series_runs, series_refused, series_accepted}
+use Rattle.laws.proofs.SeriesLaws.{series_promised, series_bounded}
+use Rattle.laws.proofs.OrderLaws.{no_block_rises}
+use Rattle.laws.proofs.RewardLaws.{no_block_lowered}
 use Rattle.moments.proofs.series.Goals as goal
 
 pub fill-requires : goal.fill-requires

@@ -9,7 +9,8 @@ use Rattle.definitions.specs.Sums.{over}
 use Rattle.definitions.specs.Weights.{mode, weight, weight_sum}
 use Rattle.definitions.specs.Level.{level}
 use Rattle.laws.specs.WeightLaws.{mode_low, weight_mode, weight_max, weight_sum_max, weight_sum_next}
-use Rattle.laws.specs.LevelLaws.{LEVELS, level_max, level_mode}
+use Rattle.laws.specs.LevelLaws.{LEVELS, level_mode}
+use Rattle.laws.proofs.LevelLaws.{level_max}
 use Rattle.laws.specs.ListLaws.{over_store, over_again}
 use Rattle.poisson.proofs.Search.{not_yet, this_one}
 use Rattle.poisson.proofs.truncate.Goals as goal

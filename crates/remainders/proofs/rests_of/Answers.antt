@@ -6,7 +6,7 @@ use Rattle.definitions.specs.declared.Sizes.{Sizes}
 use Rattle.definitions.specs.File.{state_count}
 use Rattle.definitions.specs.Chain.{Model, Listing, model_of, chain_of, uniform_rate, listed}
 use Rattle.laws.specs.ChainLaws.{square_max}
-use Rattle.laws.specs.MomentLaws.{level_range}
+use Rattle.laws.proofs.MomentLaws.{level_range}
 use Rattle.laws.specs.RemainderLaws.{rests_same}
 use Rattle.arrows.specs.RowLaws.{rows_listed}
 use Rattle.vectors.specs.ModelLaws.{Held, held_ready, held_same}

@@ -2,7 +2,7 @@
 use mathlib.Core.Path.{sym}
 use native.Mathlib.Omega.{arith}
 use lib.Seq.{length-take-le, take_all}
-use Rattle.laws.specs.SheetLaws.{sheet_denotes}
+use Rattle.laws.proofs.SheetLaws.{sheet_denotes}
 use Rattle.report.specs.ReportLaws.{held_sheet}
 use Rattle.report.proofs.report.Goals as goal
 

@@ -6,12 +6,15 @@ use Rattle.laws.specs.ChainLaws.{row_sums_to_rate}
 use Rattle.laws.specs.RuleLaws.{accepted_is_no_refusal}
 use Rattle.laws.specs.VectorLaws.{U_zero, U_first_written, U_next_written, one_for_each}
 use Rattle.laws.specs.ArrowLaws.{arrows_listed, same_by_arrows}
-use Rattle.laws.specs.LevelLaws.{level_is, level_max}
-use Rattle.laws.specs.AverageBound.{weights_covered}
-use Rattle.laws.specs.OrderLaws.{moment_falls, reward_raised}
+use Rattle.laws.specs.LevelLaws.{level_is}
+use Rattle.laws.proofs.LevelLaws.{level_max}
+use Rattle.laws.proofs.AverageBound.{weights_covered}
+use Rattle.laws.proofs.MomentFalls.{moment_falls}
+use Rattle.laws.proofs.OrderLaws.{reward_raised}
 use Rattle.laws.specs.ConvertLaws.{start_there}
 use Rattle.laws.specs.PracticeLaws.{dealt}
-use Rattle.laws.specs.SheetLaws.{cells_enough, read_whole, read_no_part}
+use Rattle.laws.specs.SheetLaws.{cells_enough}
+use Rattle.laws.proofs.SheetLaws.{read_whole, read_no_part}
 
 pub theorems : Theorems
 theorems =

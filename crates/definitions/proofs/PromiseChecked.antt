@@ -1,6 +1,6 @@
 -- Demand 3, the runs of a list of times and the bound of the level, checked by hand: what is promised of B is false where one figure, one level or one cell is
 -- another.
-use Rattle.std.specs.Prelude.{ℕ, ◌*◌, ◌≤◌, ◌<◌, Bool, true, false, List, [], ◌∷◌, ◌≡◌, refl, get_or, replicate, leb}
+use Rattle.std.specs.Prelude.{ℕ, ◌*◌, ◌≤◌, ◌<◌, Bool, false, List, [], ◌∷◌, ◌≡◌, refl, get_or, replicate, leb}
 use Rattle.std.proofs.Common.{mul-le-mul_right, le_of_mul-le-mul_right, arith, ap, sym, ◌∙◌, lit<, le-leb}
 use Rattle.definitions.specs.declared.Run.{Run}
 use Rattle.definitions.specs.Sums.{sum, largest, any_above, firsts, over, pick}
@@ -12,7 +12,7 @@ use Rattle.definitions.specs.Vectors.{row_mean, reward_share, mix, next_entry, f
 use Rattle.definitions.specs.Weights.{mode, rightward, leftward, weight, weight_sum}
 use Rattle.definitions.specs.Level.{tail_bound, allowance, passes?, first_from, level}
 use Rattle.definitions.specs.Moment.{term, weighted, nearest, last_quotient, weighted_mean, moment, cell_of, figure_of, cell, model_level, outcome, cells_after, count_after, LevelBounded}
-use Rattle.definitions.specs.Fraction.{Fraction, AtMost, Same, ratio, plus, total, power}
+use Rattle.definitions.specs.Fraction.{Fraction, Same, ratio, plus, total, power}
 use Rattle.definitions.specs.Average.{exact_mean, exact_share, exact_mix, exact_first, exact_next, exact_u, factorial, exact_weight, average_of, average, start_average}
 use Rattle.definitions.specs.Promise.{ticks, tolerance_of, Within, rounding_ticks, start_ticks, Promise}
 use Rattle.definitions.specs.Series.{AreRuns, SeriesPromised, LevelsBounded}

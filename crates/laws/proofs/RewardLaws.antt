@@ -24,7 +24,8 @@ use Rattle.laws.specs.RowLaws.{no_start, with_start}
 use Rattle.laws.specs.Acceptance.{Framed, accepted_file, accepted_series}
 use Rattle.laws.specs.MomentLaws.{run_judged}
 use Rattle.laws.specs.SeriesLaws.{series_judged}
-use Rattle.laws.specs.OrderLaws.{RaisedModel, raised_at, largest_kept, rate_kept, sum_kept, level_kept, cell_no_lower}
+use Rattle.laws.specs.OrderLaws.{RaisedModel, raised_at, largest_kept, rate_kept, sum_kept, level_kept}
+use Rattle.laws.proofs.OrderLaws.{cell_no_lower}
 
 -- two models of which one is raised pass or stop at the same rows
 module _ (a b : Model) (e : RaisedModel a b) where

@@ -13,11 +13,13 @@ use Rattle.definitions.specs.Average.{proper, exact_u, average, start_average}
 use Rattle.definitions.specs.Promise.{one_pos, ticks, tolerance_of, rounding_ticks, start_ticks, Close, StartClose, Promise}
 use Rattle.laws.specs.LevelLaws.{level_is, level_mode}
 use Rattle.laws.specs.VectorLaws.{U_bound}
-use Rattle.laws.specs.VectorError.{vector_near}
-use Rattle.laws.specs.AverageBound.{Setting, LastQuotient, close_at_level, close_past_level}
-use Rattle.laws.specs.MomentLaws.{figure_of_state, figure_of_start, get_d_figure, last_within, level_range}
+use Rattle.laws.proofs.VectorError.{vector_near}
+use Rattle.laws.proofs.AverageBound.{Setting, LastQuotient, close_at_level, close_past_level}
+use Rattle.laws.specs.MomentLaws.{figure_of_state, figure_of_start, get_d_figure}
+use Rattle.laws.proofs.MomentLaws.{last_within, level_range}
 use Rattle.laws.specs.StartLaws.{mean_max, one_more, one_more_past, mean_within}
-use Rattle.laws.specs.Acceptance.{WithinLimits, AcceptedFile, accepted_file, stochastic}
+use Rattle.laws.specs.Acceptance.{WithinLimits, AcceptedFile, accepted_file}
+use Rattle.laws.proofs.Acceptance.{stochastic}
 
 module _ (m : Model) (g : WithinLimits m) where
   -- U of a state below M for moment r, as n runs

@@ -1,0 +1,17 @@
+-- Theorems that rest on one that an edit changes: such an edit leaves them unchecked, and specs/ has to be checked whole. Each stands in a module with the name of
+-- that which it was in.
+pub mod VectorLaws
+pub mod ArrowLaws
+pub mod Acceptance
+pub mod LevelLaws
+pub mod VectorError
+pub mod WeightError
+pub mod AverageBound
+pub mod MomentLaws
+pub mod Demand3
+pub mod MomentFalls
+pub mod OrderLaws
+pub mod SeriesLaws
+pub mod RewardLaws
+pub mod SheetLaws
+pub mod Proved
