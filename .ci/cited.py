@@ -48,7 +48,6 @@ def uncited(texts):
 TO_COME = {
     *(("crates/laws/specs/LogLaws.antt", name) for name in ("offers_none", "offers_more", "few_accepted", "log_passes", "log_refused", "log_accepted")),
     ("crates/laws/specs/StayLaws.antt", "pair_passes"),
-    *(("crates/stays/specs/ReachedLaws.antt", name) for name in ("rate_refused", "rate_read")),
 }
 
 # law is cited from the crate a's specs/ alone; lone by nothing.

@@ -147,7 +147,7 @@ TO_COME = {"stays"}
 
 def edits():
     """(crate, label, path) of each edit, in the order of crates.txt."""
-    crates = re.findall(r"^(\w+):", (ROOT / "crates.txt").read_text(encoding="utf-8"), re.M)
+    crates = re.findall(r"^(\w+)(?: staticlib)?:", (ROOT / "crates.txt").read_text(encoding="utf-8"), re.M)
     return [(crate, path.stem, path) for crate in crates for path in sorted((ROOT / "crates" / crate / "must-fail").glob("*.edit"))]
 
 

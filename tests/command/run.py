@@ -20,6 +20,8 @@ import tempfile
 
 ROOT = os.path.dirname(os.path.dirname(os.path.dirname(os.path.abspath(__file__))))
 TIME_LIMIT = 300   # seconds for one command
+# Where ./build proves its copy of the crates.
+WORK = os.path.join(os.path.realpath(os.environ.get("TMPDIR") or "/tmp"), f"kuldrepso-build-{os.geteuid()}")
 NOT_WHOLE = "calculate: the sheet could not be written whole\n"
 UNREADABLE = "calculator: the input cannot be read\n"
 CLOSED = "calculate: standard input is closed; a model file is read from it: ./calculate < FILE\n"
@@ -214,13 +216,13 @@ def format_page():
 
 
 def copied(room):
-    """A copy of what the commands need, with what ./build has proved."""
+    """A copy of what the commands need, with what ./build has made, and without what rt keeps beside a crate."""
     copy = os.path.join(room, "a copy")
     os.makedirs(os.path.join(copy, "target"))
     for name in ("build", "calculate", "practice", "crates.txt"):
         shutil.copy(os.path.join(ROOT, name), copy)
-    for name in ("crates", "docs", "examples", "target/build", "target/built"):
-        shutil.copytree(os.path.join(ROOT, name), os.path.join(copy, name))
+    for name in ("crates", "docs", "examples", "target/built"):
+        shutil.copytree(os.path.join(ROOT, name), os.path.join(copy, name), ignore=shutil.ignore_patterns("out"))
     return copy
 
 
@@ -275,9 +277,9 @@ def stale(room, copy):
     status, output, words = run(command, copy)
     log = os.path.join(copy, "target", "build-calculator.log")
     expect("an edit that the prover refuses", (status, output), (2, b""))
-    expect("its reason", re.sub(r", \d+ s", "", words.splitlines()[-1]),
+    expect("its reason", words.splitlines()[-1],
            f"build: no calculator: sheet NOT PROVED (exit 1); all that the prover said is in {log} "
-           f"(to start from nothing, remove {copy}/target/build)")
+           f"(to start from nothing, remove {WORK})")
     with open(log, encoding="utf-8") as source:
         expect("its log", f"{copy}/crates/sheet/proofs/" in source.read(), True)
     expect("the same without the toolchain", run(command, copy, PATH=no_rt),
@@ -287,15 +289,16 @@ def stale(room, copy):
     expect("the edit undone, without the toolchain", run(command, copy, PATH=no_rt), (0, B, ""))
 
 
-# Stands in for rt where the toolchain's own work does not matter: it keeps the last line of crates.txt for each call,
-# and hands a program over. It would swallow a model file that it is given.
+# Stands in for rt where the toolchain's own work does not matter: it keeps the last line of crates.txt for each program that
+# it is to make, and hands a program over. It would swallow a model file that it is given.
 STAND_IN = """#!/bin/sh
 cat > /dev/null
+[ "$1" = run ] || exit 0
 sleep $DELAY
-mkdir -p target/bin
-cp "$PROGRAM" target/bin/$2
+mkdir -p out
+cp "$PROGRAM" "out/${PWD##*/}"
 eval "$MEANWHILE"
-tail -n 1 crates.txt >> "$CALLS"
+tail -n 1 ../../crates.txt >> "$CALLS"
 echo "$SAYS"
 exit $STATUS
 """
@@ -314,17 +317,23 @@ class StandIn:
             with open(path, "w", encoding="utf-8") as target:
                 target.write(text)
             os.chmod(path, 0o755)
+        self.rooms = os.path.join(room, "rooms")
+        os.mkdir(self.rooms)
         self.settings = {"PATH": os.path.join(room, "bin") + ":" + os.environ["PATH"], "CALLS": self.calls, "COPY": copy,
-                         "DELAY": "0", "MEANWHILE": "", "SAYS": "rt: calculator proved (1 s)", "STATUS": "0",
+                         "DELAY": "0", "MEANWHILE": "", "SAYS": "rt: proved", "STATUS": "0", "TMPDIR": self.rooms,
                          "PROGRAM": run("./build calculator")[1].decode().strip()}
         self.fresh()
 
     def path(self, *names):
         return os.path.join(self.copy, *names)
 
+    def work(self, *names):
+        return os.path.join(self.rooms, os.path.basename(WORK), *names)
+
     def fresh(self):
         """Nothing is made, and rt was never called."""
         shutil.rmtree(self.path("target"), ignore_errors=True)
+        shutil.rmtree(self.work(), ignore_errors=True)
         with contextlib.suppress(OSError):
             os.remove(self.calls)
 
@@ -371,8 +380,8 @@ def while_building(stand):
     both = "./calculate < examples/B.model > other & ./calculate < examples/B.model; wait $! && cat other"
     expect("two at once", (stand.run(both, DELAY="1")[:2], len(stand.called())), ((0, B + B), 1))
     stand.fresh()
-    failing = stand.run(both, DELAY="1", STATUS="1", SAYS="rt: sheet NOT PROVED (exit 1, 1 s)")
-    lines = [line for line in failing[2].splitlines() if line.startswith("build: no calculator: sheet NOT PROVED (exit 1, 1 s); ")]
+    failing = stand.run(both, DELAY="1", STATUS="1")
+    lines = [line for line in failing[2].splitlines() if line.startswith("build: no calculator: calculator NOT PROVED (exit 1); ")]
     expect("two at once that fail", (failing[:2], len(lines)), ((2, b""), 2))
 
 
@@ -381,11 +390,17 @@ def in_trouble(stand):
     stand.fresh()
     status, output, words = stand.run(STATUS="2", SAYS="rt: no toolchain here")
     expect("an rt that fails", (status, output, "build: no calculator: no toolchain here; " in words), (2, b"", True))
-    os.makedirs(stand.path("target/build/target/stamp"), exist_ok=True)
-    shutil.rmtree(stand.path("target/build/target/bin"))
-    write(stand.path("target/build/target/stamp/calculator"), "kept")
+    shutil.rmtree(stand.work("crates/calculator/out"))
+    os.makedirs(stand.work("crates/calculator/out"))
+    write(stand.work("crates/calculator/out/calculator.stamp"), "kept")
     expect("a stamp without its program", stand.run()[:2], (0, B))
-    expect("that stamp", os.path.exists(stand.path("target/build/target/stamp/calculator")), False)
+    stand.run("rm -r target/built")
+    os.makedirs(stand.work("crates/gone/out"))
+    write(stand.work("crates/gone/lib.rt"), "// \n")
+    write(stand.work("crates/gone/out/kept"), "kept")
+    expect("a crate of another checkout", stand.run()[:2], (0, B))
+    expect("its file", os.path.exists(stand.work("crates/gone/lib.rt")), False)
+    expect("what rt kept of it", os.path.exists(stand.work("crates/gone/out/kept")), True)
     os.truncate(stand.run("./build calculator")[1].decode().strip(), 0)
     expect("an empty program", stand.run()[:2], (0, B))
     stand.fresh()
@@ -401,6 +416,10 @@ def in_trouble(stand):
     expect("no folder to write to", stand.run(), (2, b"", f"build: no calculator: cannot write to {stand.copy}/target\n"))
     expect("the same for a file", stand.run("./practice 3 2 1234"), (2, b"", f"build: no dealer: cannot write to {stand.copy}/target\n"))
     os.remove(stand.path("target"))
+    shutil.rmtree(stand.work(), ignore_errors=True)
+    write(stand.work(), "")
+    expect("no folder to prove in", stand.run(), (2, b"", f"build: no calculator: cannot write to {stand.work()}\n"))
+    os.remove(stand.work())
     os.remove(stand.path("docs/FORMAT.md"))
     stand.run()
     expect("no page of rules", stand.run("./calculate < /dev/null"),

@@ -1,50 +1,47 @@
 // Writes mul_div's answer for each case of cases.py, one to a line: quotient and remainder, or "none" for Nothing; then
 // over_trillion's.
+#![tactic(auto)]
+
 mod cases;
 
 use cases::{A, B, C, COUNT, TERMS, U, W};
-use libc::STDOUT_FILENO;
 use muldiv::Divided;
+use std::io;
 
-fn line(quotient: u64, remainder: u64) {
-    io::print_decimal(STDOUT_FILENO, quotient);
-    io::write_all(STDOUT_FILENO, b" ");
-    io::print_decimal(STDOUT_FILENO, remainder);
-    io::write_all(STDOUT_FILENO, b"\n");
+fn line(rt: HostRuntime, quotient: u64, remainder: u64) -> io::Result<()> {
+    println!(rt; "{quotient} {remainder}")
 }
 
-fn show(a: u64, b: u64, c: u64) {
+fn show(rt: HostRuntime, a: u64, b: u64, c: u64) -> io::Result<()> {
     match muldiv::mul_div(a, b, c) {
-        Divided::Into(d) => {
-            line(d.quotient, d.remainder);
-        }
-        Divided::Nothing => {
-            io::write_all(STDOUT_FILENO, b"none\n");
-        }
+        Divided::Into(d) => line(rt, d.quotient, d.remainder),
+        Divided::Nothing => println!(rt; "none"),
     }
 }
 
-fn quotients() {
+fn quotients(rt: HostRuntime) -> io::Result<()> {
     for i in 0..COUNT {
-        show(A[i], B[i], C[i]);
+        show(rt, A[i], B[i], C[i])?;
     }
+    Ok(())
 }
 
-fn show_term(w: u64, u: u64) {
+fn show_term(rt: HostRuntime, w: u64, u: u64) -> io::Result<()> {
     if w > 1_000_000_000_000_000 || u > 1_000_000_000_000 {
-        return;
+        return Ok(());
     }
     let term = muldiv::over_trillion(w, u);
-    line(term.quotient, term.remainder);
+    line(rt, term.quotient, term.remainder)
 }
 
-fn terms() {
+fn terms(rt: HostRuntime) -> io::Result<()> {
     for i in 0..TERMS {
-        show_term(W[i], U[i]);
+        show_term(rt, W[i], U[i])?;
     }
+    Ok(())
 }
 
-fn main() {
-    quotients();
-    terms();
+fn main(rt: HostRuntime) -> io::Result<()> {
+    quotients(rt)?;
+    terms(rt)
 }

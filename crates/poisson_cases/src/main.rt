@@ -1,6 +1,8 @@
 // Prints weights and truncation levels, to be compared with what cases.py computes from document 01.
-use libc::STDOUT_FILENO;
+#![tactic(auto)]
+
 use poisson::LEVELS;
+use std::io;
 
 const CASES: usize = 26;
 
@@ -67,47 +69,48 @@ const TOLERANCES: [u64; CASES] = [
 // A prime, so that each entry counts in the checksum.
 const PRIME: u64 = 1_000_000_007;
 
-fn main() {
-    show_b();
+fn main(rt: HostRuntime) -> io::Result<()> {
+    show_b(rt)?;
     let mut i = 0;
     while i < CASES {
-        show(XS[i], TOLERANCES[i]);
+        show(rt, XS[i], TOLERANCES[i])?;
         i += 1;
     }
+    Ok(())
 }
 
 // File B: X is 1,000,000 and the tolerance 100,000,000. Its weights 0 to 3, and its level.
-fn show_b() {
+fn show_b(rt: HostRuntime) -> io::Result<()> {
     let mut w = [0u64; LEVELS];
     let cut = poisson::truncate(1_000_000, 100_000_000, &mut w);
     let first = w[0];
     let second = w[1];
     let third = w[2];
     let fourth = w[3];
-    io::write_all(STDOUT_FILENO, b"B ");
-    number(first);
-    number(second);
-    number(third);
-    number(fourth);
-    last(cut.level);
+    print!(rt; "B ")?;
+    number(rt, first)?;
+    number(rt, second)?;
+    number(rt, third)?;
+    number(rt, fourth)?;
+    last(rt, cut.level)
 }
 
 // X, the tolerance, the level N, S(N), and the checksum of the array: w(0) to w(N), and 7 past N as before.
-fn show(x: u64, tolerance: u64) {
+fn show(rt: HostRuntime, x: u64, tolerance: u64) -> io::Result<()> {
     if x > 256_000_000 {
-        return;
+        return Ok(());
     }
     if tolerance < 1 || tolerance > 100_000_000 {
-        return;
+        return Ok(());
     }
     let mut w = [7u64; LEVELS];
     let cut = poisson::truncate(x, tolerance, &mut w);
     let sum = checksum(&w);
-    number(x);
-    number(tolerance);
-    number(cut.level);
-    number(cut.sum);
-    last(sum);
+    number(rt, x)?;
+    number(rt, tolerance)?;
+    number(rt, cut.level)?;
+    number(rt, cut.sum)?;
+    last(rt, sum)
 }
 
 // c = 31 * c + w(n) by PRIME, over the whole array, n rising from 0.
@@ -121,12 +124,10 @@ fn checksum(w: &[u64; LEVELS]) -> u64 {
     c
 }
 
-fn number(n: u64) {
-    io::print_decimal(STDOUT_FILENO, n);
-    io::write_all(STDOUT_FILENO, b" ");
+fn number(rt: HostRuntime, n: u64) -> io::Result<()> {
+    print!(rt; "{n} ")
 }
 
-fn last(n: u64) {
-    io::print_decimal(STDOUT_FILENO, n);
-    io::write_all(STDOUT_FILENO, b"\n");
+fn last(rt: HostRuntime, n: u64) -> io::Result<()> {
+    println!(rt; "{n}")
 }

@@ -1,11 +1,10 @@
 -- A record that keeps stays still does as the oldest leaves and as a new one enters.
-use Rattle.std.specs.Prelude.{ℕ, zero, suc, ◌+◌, ◌*◌, ◌-◌, ◌≤◌, ◌<◌, List, [], ◌∷◌, ◌≡◌, refl, length, get_or, set, take, replicate, ltb, eqb}
+use Rattle.std.specs.Prelude.{ℕ, zero, suc, ◌+◌, ◌*◌, ◌-◌, ◌≤◌, ◌<◌, List, [], ◌∷◌, ◌≡◌, refl, length, get_or, set, take}
 use Rattle.std.proofs.Common.{arith, sym, ap, ◌∙◌, length-set, length-take-le, get_or-take, get_or-set_same, get_or-set_other, eq-eqb, ne_eqb, lt-ltb, le-ltb}
 use Rattle.std.proofs.Math.Decide.{ℕ_discrete, dec_lt}
 use Rattle.std.proofs.lemmas.List.{length-replicate, get_or-replicate}
-use Rattle.definitions.specs.Sums.{pick}
 use Rattle.definitions.specs.Stays.{Stay, tally, goes, spends, count_in, hours_in}
-use Rattle.laws.specs.StayLaws.{Fine, AllFine, no_stay, tally_none, tally_first, tally_last, tally_max, fine_at, fine_take, goes_here, goes_else, goes_max, spends_here, spends_else, spends_max}
+use Rattle.laws.specs.StayLaws.{Fine, no_stay, tally_none, tally_first, tally_last, tally_max, fine_at, fine_take, goes_here, goes_else, goes_max, spends_here, spends_else, spends_max}
 use Rattle.stays.specs.declared.Record.{Record}
 use Rattle.stays.specs.Kept.{place_of, Keeps, left, entered, empty, following}
 

@@ -1,20 +1,19 @@
 -- Every record that comes from a start through stays keeps its last stays accepted, and so what is claimed of each call holds.
-use Rattle.std.specs.Prelude.{ℕ, suc, ◌+◌, ◌*◌, ◌-◌, ◌≤◌, ◌<◌, Bool, true, false, ◌≡◌, refl, length, get_or, take, eqb}
+use Rattle.std.specs.Prelude.{ℕ, suc, ◌-◌, ◌≤◌, Bool, true, false, ◌≡◌, refl, take, eqb}
 use Rattle.std.proofs.Common.{arith, sym, ap₂, ◌∙◌, subst, take_all, eq-eqb, ne_eqb}
 use Rattle.std.proofs.Math.Decide.{ℕ_discrete}
 use mathlib.Core.List.{List, [], ◌∷◌}
 use Rattle.std.proofs.Math.Path.{ap}
 use Rattle.std.proofs.Math.Seq.{take-nil}
 use Rattle.definitions.specs.declared.Judgement.{Judgement}
-use Rattle.definitions.specs.declared.Reading.{Reading}
 use Rattle.definitions.specs.declared.Reading.TheVariants as read
 use Rattle.definitions.specs.Sums.{sum, pick}
 use Rattle.definitions.specs.Rules.{Answer, accepted, refused, judged_by, verdict}
-use Rattle.definitions.specs.Stays.{Stay, start_rows, pair_rows, stay_answer, by_answer, lasts, count_in, hours_in, rate_of, rate_in, reading_answer, Tallied}
+use Rattle.definitions.specs.Stays.{Stay, start_rows, pair_rows, stay_answer, by_answer, lasts, count_in, hours_in, rate_of, Tallied}
 use Rattle.laws.specs.SumLaws.{sum_same}
 use Rattle.laws.specs.RuleLaws.{accepted_is_no_refusal, none_hold, also_refused, also_accepted}
 use Rattle.laws.specs.RowLaws.{in_range}
-use Rattle.laws.specs.StayLaws.{Pair, pair_by, Fine, fine_by, taken_none, lasts_taken, lasts_refused, lasts_fine, counts_sum, count_max, rate_most}
+use Rattle.laws.specs.StayLaws.{Pair, pair_by, Fine, fine_by, taken_none, lasts_taken, lasts_refused, counts_sum, count_max, rate_most}
 use Rattle.stays.specs.declared.Record.{Record}
 use Rattle.stays.specs.Kept.{Keeps, Holding, Room, left, entered, empty, pushed, stayed, started, reached_by}
 use Rattle.stays.specs.Claims.{told, Comes, Reached, StartClaim, StayClaim, RateClaim}
