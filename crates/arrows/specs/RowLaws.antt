@@ -1,11 +1,9 @@
 -- A row is listed state by state, and with all rows stored the arrays hold the model's rows. Assumes nothing.
-use Rattle.std.specs.Prelude.{ℕ, zero, suc, ◌+◌, ◌*◌, ◌-◌, ◌≤◌, ◌<◌, ◌≡◌, refl, Bool, true, false, ◌||◌, List, [], ◌∷◌, map, eqb, ltb, length, get_or, set, drop}
-use Rattle.std.proofs.Common.{mul-le-mul_right, add-one, ◌∙◌, ap, length-set, length-drop, length-take-le, get_or-take, get_or-drop, ext_get_or}
-use Rattle.std.proofs.Math.Decide.{ℕ_discrete}
+use Rattle.std.specs.Prelude.{ℕ, suc, ◌+◌, ◌*◌, ◌-◌, ◌≤◌, ◌<◌, ◌≡◌, refl, Bool, true, false, ◌||◌, List, map, eqb, ltb, length, get_or, set, drop}
+use Rattle.std.proofs.Common.{mul-le-mul_right, ◌∙◌, ap, length-set, length-drop, length-take-le, get_or-take, get_or-drop, ext_get_or}
 use native.Mathlib.Omega.{arith}
 use Rattle.std.proofs.lemmas.List.{length-map}
 use Rattle.std.proofs.lemmas.List.Edits.{sets}
-use Rattle.std.proofs.Math.Seq.{length-sets}
 use Rattle.definitions.specs.Sums.{over, rows_stored, pick}
 use Rattle.definitions.specs.Chain.{Model, Listing, row_sum, uniform_rate, c, listed}
 use Rattle.definitions.specs.Arrows.{falling, is_added, added_states, states_in, ListsRows}

@@ -1,6 +1,6 @@
 -- The texts that are put one after the other are the moved file.
 use Rattle.std.specs.Prelude.{ℕ, ◌+◌, ◌*◌, ◌-◌, ◌≤◌, ◌<◌, ◌≡◌, List, [], ◌∷◌, ◌++◌, length, get_or, take, drop, replicate}
-use Rattle.std.proofs.Common.{arith, sym, ◌∙◌, ap, ap₂, subst}
+use Rattle.std.proofs.Common.{sym, ◌∙◌, ap, ap₂, subst}
 use borrow.Author.Rules.{part_to_end}
 use Rattle.definitions.specs.Bytes.{bytes_of}
 use Rattle.definitions.specs.File.{length_field, state_count}

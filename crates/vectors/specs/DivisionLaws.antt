@@ -1,10 +1,10 @@
 -- A row's places add up in S-7's order, and the entries of a step are the quotients of its divisions. Assumes nothing.
-use Rattle.std.specs.Prelude.{List, [], ◌≡◌, ℕ, ◌+◌, ◌*◌, ◌%◌, ◌≤◌, ◌<◌, get_or}
+use Rattle.std.specs.Prelude.{List, [], ◌≡◌, ℕ, ◌*◌, ◌%◌, ◌<◌, get_or}
 use Rattle.std.proofs.Common.{sym, ◌∙◌, ap, subst, arith}
 use Rattle.definitions.specs.declared.Sizes.{Sizes}
 use Rattle.definitions.specs.Division.{Divides}
 use Rattle.definitions.specs.Sums.{sum}
-use Rattle.definitions.specs.Chain.{Model, Chain, Listing, listed, arrays, c, padded}
+use Rattle.definitions.specs.Chain.{Model, Listing, listed, arrays, c, padded}
 use Rattle.definitions.specs.Vectors.{reward_share, next_entry}
 use Rattle.definitions.specs.Arrows.{add_up, added_states}
 use Rattle.definitions.specs.Remainders.{rests_in, StepDivides}

@@ -1,4 +1,4 @@
-use Prim.Native.Nat.{◌-◌, ◌≤◌}
+use Prim.Native.Nat.{◌≤◌}
 use Rattle.definitions.specs.Chain.{model_of}
 use Rattle.arrows.specs.Rows.{DownTo}
 use Rattle.arrows.proofs.list_row.Given as goal

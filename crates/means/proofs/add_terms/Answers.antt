@@ -2,10 +2,8 @@
 use Prim.Native.Nat.{ℕ, ◌+◌, ◌-◌, ◌*◌, ◌/◌, ◌≤◌, ◌<◌}
 use native.Mathlib.Omega.{arith}
 use mathlib.Core.Path.{◌≡◌, refl, sym, ◌∙◌, ap, ap₂}
-use mathlib.Core.Logic.{⊎_elim}
 use mathlib.Core.List.{List, []}
 use lib.ListN.{get_or, length-set}
-use Rattle.definitions.specs.Sums.{over}
 use Rattle.definitions.specs.Moment.{term}
 use Rattle.laws.specs.Rounding.{row_of_place}
 use Rattle.laws.specs.ListLaws.{over_none, over_store, get_d_over_past}

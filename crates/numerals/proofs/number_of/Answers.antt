@@ -1,6 +1,5 @@
 -- `numerals::number_of` meets its contract: after i turns the first i bytes are read. Assumes nothing.
 use mathlib.Core.Path.{◌∙◌, sym, ap}
-use Prim.Native.Nat.{◌-◌}
 use native.Mathlib.Omega.{arith}
 use Rattle.numerals.specs.Answer.{numeral_answer}
 use Rattle.numerals.specs.Reading.{unread, goes_on, stops, read_whole, no_text}

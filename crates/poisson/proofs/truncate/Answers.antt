@@ -2,7 +2,7 @@
 -- The loop's invariant: n is from m to the level, w is w(n), the sum is S(n), and the array is filled up to n. The measure is what is
 -- left up to the level.
 use mathlib.Core.Path.{◌≡◌, refl, ap, sym, ◌∙◌}
-use Prim.Native.Nat.{ℕ, ◌+◌, ◌-◌, ◌≤◌, ◌<◌}
+use Prim.Native.Nat.{ℕ, ◌+◌, ◌≤◌, ◌<◌}
 use native.Mathlib.Omega.{arith}
 use lib.ListN.{length, length-set}
 use Rattle.definitions.specs.Sums.{over}

@@ -1,5 +1,5 @@
 -- `practice::put_draws` meets its contract: after each turn one draw more stands there. Assumes nothing.
-use Rattle.std.proofs.Common.{◌≡◌, ◌-◌, sym, refl, ap, arith}
+use Rattle.std.proofs.Common.{◌≡◌, sym, refl, ap, arith}
 use Rattle.definitions.specs.Sums.{firsts}
 use Rattle.definitions.specs.Fields.{words_of}
 use Rattle.definitions.specs.Practice.{next, stream, upper}

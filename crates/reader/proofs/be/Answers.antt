@@ -1,5 +1,5 @@
 -- `reader::be` meets its contract: after k bytes the value is the number of k bytes. Assumes nothing.
-use Prim.Native.Nat.{ℕ, ◌+◌, ◌-◌, ◌<◌, ◌^◌, ◌*◌}
+use Prim.Native.Nat.{ℕ, ◌+◌, ◌<◌, ◌^◌, ◌*◌}
 use mathlib.Core.Path.{◌≡◌, sym, ap₂, ◌∙◌}
 use native.Mathlib.Omega.{arith}
 use Rattle.laws.specs.ByteLaws.{big_none, big_more, below_more, below_wider}

@@ -1,6 +1,5 @@
 -- `sheet::put_lines` meets its contract: after k turns the first k lines stand there. Assumes nothing.
 use mathlib.Core.Path.{◌≡◌, refl}
-use Prim.Native.Nat.{◌-◌}
 use native.Mathlib.Numerals.{add-one}
 use native.Mathlib.Omega.{arith}
 use Rattle.definitions.specs.Sheet.{figure_lines}

@@ -1,6 +1,5 @@
 -- `vectors::ones` meets its contract. Assumes nothing.
 use mathlib.Core.Path.{◌≡◌, refl, sym, ◌∙◌}
-use Prim.Native.Nat.{◌-◌}
 use native.Mathlib.Omega.{arith}
 use Rattle.definitions.specs.Vectors.{ONE}
 use Rattle.laws.specs.ListLaws.{over_none, over_store}

@@ -1,6 +1,6 @@
 -- `vectors::step` meets its contract. The invariant: the states passed have U(n,r), and each took a row mean. Assumes nothing.
 use mathlib.Core.Path.{◌≡◌, sym, ◌∙◌, ap, ap₂}
-use Prim.Native.Nat.{ℕ, ◌-◌}
+use Prim.Native.Nat.{ℕ}
 use native.Mathlib.Omega.{arith}
 use Rattle.definitions.specs.Chain.{listed, arrays}
 use Rattle.definitions.specs.Vectors.{row_mean, reward_share, mix, next_entry}

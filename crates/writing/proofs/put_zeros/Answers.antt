@@ -1,6 +1,5 @@
 -- `writing::put_zeros` meets its contract: after each turn one zero more stands there. Assumes nothing.
 use mathlib.Core.Path.{◌≡◌, refl}
-use Prim.Native.Nat.{◌-◌}
 use native.Mathlib.Omega.{arith}
 use Rattle.writing.specs.Puts.{nothing, then}
 use Rattle.writing.specs.TextLaws.{next_zero}
