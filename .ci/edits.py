@@ -31,6 +31,8 @@ or two sides of a goal that differ. "Refused in" names the module or the functio
 fails, and the fact: `returns` is what the function ensures, `F-x-requires` what F asks of the call that gives x, `loop-i-init` and `loop-i-preserved` the invariant of a loop over i at the start and after a round.
 Most edits keep the code's shape. Some need an operator, a statement or a test more, as `muldiv/to_the_nearest`, where a half has to be added, `moments/levels_written_on_a_refusal`, which adds a test, or `practice/bytes_cleared_on_a_refusal`, which adds a store; where that would move the proof's paths, the edit moves them by as much, so that the fact is what fails.
 
+The crate `stays`, which is being written, has none yet.
+
 Three limits. A refused law is not a false law: `one_tick_less_at_the_level`, `half_the_vector_error` and `last_level_one_less` show that the proof does not reach the tighter bound.
 And the arithmetic tactic takes a product of two unknowns as one more unknown, so that a counterexample such as `P` = 0 with `P * ZN` = 1 need not be a model.
 Last, a right version in another form may be refused in the same words, where the proof is made for this form: that an edit is wrong is not what its refusal shows.
@@ -58,8 +60,8 @@ FACTS = [
     ("computed as far as they go, the two types ", DIFFER),
     ("expected type `", DIFFER),
 ]
-# An operator without its numbers, or what the prover left open: these differ where the proof's shape does.
-SHAPE = re.compile(r"(?:where one has|the two types are) `(?:\([^`() ]*◌[^`() ]*\)|[^`() ]*◌[^`() ]*|\?\w*)`")
+# An operator without its numbers, what the prover left open, or a type of values where no fact is asked: these differ where the proof's shape does.
+SHAPE = re.compile(r"(?:where one has|the two types are) `(?:\([^`() ]*◌[^`() ]*\)|[^`() ]*◌[^`() ]*|\?\w*)`|expected type `(?:[\w.]+\.)?(?:ℕ|ℤ|Bool|List [^`]*)`")
 
 Refusal = namedtuple("Refusal", "place name why")
 
@@ -102,6 +104,7 @@ SAMPLES = [
     ("refused, as it must be: ./proofs/f/Answers.antt:38:72: error: `returns`: `omega`: the part `.whole` of the goal does not follow from what it read.", ("f", "returns", COUNTEREXAMPLE)),
     ("refused, as it must be: ./specs/Law.antt:103:12: error: `law`: as printed, the two types differ only where one has `0 ∷ 0 ∷ []`", ("Law", "law", DIFFER)),
     ("refused, as it must be: ./proofs/Law.antt:15:12: error: `law`: expected type `f 9 ≡ 53`, but this has type `f 9 ≡ f 9`", ("Law", "law", DIFFER)),
+    ("refused, as it must be: ./proofs/f/Answers.antt:9:1: error: `returns`: expected type `Prim.Native.Nat.ℕ`, but this has type `lib.IntN.ℤ`", ("f", "returns", "")),
     ("refused, as it must be: note: src/lib.rt:9:1: it is not proved that what the function ensures holds when it returns (`returns`); the facts known there allow values at which this goal", ("g", "returns", COUNTEREXAMPLE)),
     ("refused, as it must be: note: src/lib.rt:6:9: it is not proved that what `g` requires holds at this call (`g-b-requires`); the facts known there allow values at which this goal", ("f", "g-b-requires", COUNTEREXAMPLE)),
     ("refused, as it must be: note: src/lib.rt:9:1: it is not proved that what the function ensures holds when it returns (`returns`)", ("g", "returns", "")),

@@ -3,10 +3,9 @@
 
 Run from the root of the repository:
 
-    python3 crates/muldiv_cases/cases.py && rt fmt
+    python3 crates/muldiv_cases/cases.py && (cd crates/muldiv_cases && rt fmt)
 
-Python's whole numbers have no width, so a division is one expression here. The number of cases also
-stands in proofs/quotients/Proof.antt, twice, and that of the terms in proofs/terms/Proof.antt.
+Python's whole numbers have no width, so a division is one expression here.
 """
 
 import os

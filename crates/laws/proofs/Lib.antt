@@ -1,5 +1,5 @@
--- Theorems that rest on one that an edit changes: such an edit leaves them unchecked, and specs/ has to be checked whole. Each stands in a module with the name of
--- that which it was in.
+-- Theorems that rest on one that an edit changes: such an edit leaves them unchecked, and specs/ has to be checked whole. A module has the name of that in specs/ with the
+-- theorem's other laws; moment_falls, which is edited and rests on others, has one of its own.
 pub mod VectorLaws
 pub mod ArrowLaws
 pub mod Acceptance
