@@ -2,8 +2,8 @@
  * calculation, its last division rounded to the nearest tick (document 02, S-1), at one time or at several (S-3), how
  * many row means that takes (S-8), how its figures are ordered (S-9), what its divisions leave over (S-4), files with a
  * starting distribution (S-5), and practice files (S-6), for C.
- * `./build kuldrepso` makes the library, libkuldrepso.a (x86-64), and prints its path; it needs nothing but memcpy and
- * memset. The contracts of its calls are proved: crates/kuldrepso/src/lib.rt. */
+ * `./build kuldrepso` makes the library, libkuldrepso.a (x86-64-v2), and prints its path; it needs nothing but memcpy
+ * and memset. The contracts of its calls are proved: crates/kuldrepso/src/lib.rt. */
 #ifndef KULDREPSO_H
 #define KULDREPSO_H
 
