@@ -1,9 +1,8 @@
 -- What is dealt from three texts, checked by hand, and calls that did otherwise.
-use Rattle.std.specs.Prelude.{ℕ, List, [], ◌∷◌, ◌≡◌, refl, get_or, set, replicate}
+use Rattle.std.specs.Prelude.{ℕ, List, [], ◌∷◌, ◌≡◌, refl, get_or, set, replicate, Option, None, Some, Ok, Err}
 use Rattle.std.proofs.Common.{arith, ap}
-use Rattle.definitions.specs.declared.Dealing.TheVariants as ended
+use Rattle.definitions.specs.declared.NotDealt.TheVariants.{NoSeed}
 use Rattle.definitions.specs.Sums.{firsts}
-use Rattle.definitions.specs.Maybe.{Maybe, none, given}
 use Rattle.definitions.specs.Bytes.{big, bytes_of}
 use Rattle.definitions.specs.Rules.{Answer, accepted, refused, room, first_held}
 use Rattle.definitions.specs.Written.{written, file_for}
@@ -65,7 +64,7 @@ pub record ThreeTexts : Type 0 where
   pub highest : List ℕ
   pub seed : List ℕ
   pub lent : ℕ
-  pub answer : Answer (Maybe (List ℕ))
+  pub answer : Answer (Option (List ℕ))
 
 abbrev pub AllDealt : List ThreeTexts → Type 0
 AllDealt [] = Unit {0}
@@ -74,16 +73,16 @@ AllDealt (a ∷ rest) = (dealt_by (dimension_in a.states) (dimension_in a.highes
 -- seed numbers that have more than 16 bits and more than 31; 4 before 5, 5 before the seed number, and that before 13; 2^64 + 1 is not taken for 1
 abbrev pub texts : List ThreeTexts
 texts =
-    record { states = text3; highest = text2; seed = 49 ∷ 50 ∷ 51 ∷ 52 ∷ []; lent = 49; answer = accepted (given dealt1234) }
-    ∷ record { states = text1; highest = text1; seed = text0; lent = 17; answer = accepted (given dealt0) }
-    ∷ record { states = text1; highest = text1; seed = text2to16; lent = 17; answer = accepted (given dealt2to16) }
-    ∷ record { states = text1; highest = text1; seed = text2to31; lent = 17; answer = accepted (given dealt2to31) }
-    ∷ record { states = text1; highest = text1; seed = text_last; lent = 17; answer = accepted (given dealt_last) }
+    record { states = text3; highest = text2; seed = 49 ∷ 50 ∷ 51 ∷ 52 ∷ []; lent = 49; answer = accepted (Some dealt1234) }
+    ∷ record { states = text1; highest = text1; seed = text0; lent = 17; answer = accepted (Some dealt0) }
+    ∷ record { states = text1; highest = text1; seed = text2to16; lent = 17; answer = accepted (Some dealt2to16) }
+    ∷ record { states = text1; highest = text1; seed = text2to31; lent = 17; answer = accepted (Some dealt2to31) }
+    ∷ record { states = text1; highest = text1; seed = text_last; lent = 17; answer = accepted (Some dealt_last) }
     ∷ record { states = text0; highest = text9; seed = text_x; lent = 0; answer = refused 4 }
     ∷ record { states = text3; highest = text9; seed = text_x; lent = 0; answer = refused 5 }
-    ∷ record { states = text3; highest = text2; seed = text2to32; lent = 0; answer = accepted none }
-    ∷ record { states = text3; highest = text2; seed = []; lent = 0; answer = accepted none }
-    ∷ record { states = text3; highest = text2; seed = 45 ∷ 49 ∷ []; lent = 0; answer = accepted none }
+    ∷ record { states = text3; highest = text2; seed = text2to32; lent = 0; answer = accepted None }
+    ∷ record { states = text3; highest = text2; seed = []; lent = 0; answer = accepted None }
+    ∷ record { states = text3; highest = text2; seed = 45 ∷ 49 ∷ []; lent = 0; answer = accepted None }
     ∷ record { states = text1; highest = text1; seed = text0; lent = 16; answer = refused 13 }
     ∷ record { states = text_past; highest = text1; seed = text0; lent = 17; answer = refused 4 }
     ∷ record { states = []; highest = text1; seed = text0; lent = 17; answer = refused 4 }
@@ -95,34 +94,34 @@ unfolding all_digits value_of numeral dimension_in seed_in next stream upper dra
 all_dealt = (refl, (refl, (refl, (refl, (refl, (refl, (refl, (refl, (refl, (refl, (refl, (refl, (refl, (refl, tt))))))))))))))
 
 -- another count, another byte, and the file of seed number 0 for 65536
-pub another_count : (after : List ℕ) → DealtFrom text1 text1 text0 (ended.Count 18) (replicate 18 7) after → ⊥
+pub another_count : (after : List ℕ) → DealtFrom text1 text1 text0 (Ok 18) (replicate 18 7) after → ⊥
 unfolding all_digits value_of numeral dimension_in seed_in firsts bytes_of words_of headed file_of room first_held file_for practice_fields practice_file practice
 another_count after h =
-    let counts : ◌≡◌ {A = Answer (Maybe ℕ)} (accepted (given 18)) (accepted (given 17)) = h.answer in
+    let counts : ◌≡◌ {A = Answer (Option ℕ)} (accepted (Some 18)) (accepted (Some 17)) = h.answer in
     let same : ◌≡◌ {A = ℕ} 18 17 = cc in
     omega arith
 
-pub another_byte : DealtFrom text1 text1 text0 (ended.Count 17) (replicate 17 7) (set dealt0 16 0x50) → ⊥
+pub another_byte : DealtFrom text1 text1 text0 (Ok 17) (replicate 17 7) (set dealt0 16 0x50) → ⊥
 unfolding all_digits value_of numeral dimension_in seed_in next stream upper draw firsts bytes_of words_of headed file_of room first_held written file_for practice_fields practice_file practice
 another_byte h = omega (arith, ap (λ (l : List ℕ). get_or l 16 0) h.bytes)
 
-pub another_seed : DealtFrom text1 text1 text2to16 (ended.Count 17) (replicate 17 7) dealt0 → ⊥
+pub another_seed : DealtFrom text1 text1 text2to16 (Ok 17) (replicate 17 7) dealt0 → ⊥
 unfolding all_digits value_of numeral dimension_in seed_in next stream upper draw firsts bytes_of words_of headed file_of room first_held written file_for practice_fields practice_file practice
 another_seed h = omega (arith, ap (λ (l : List ℕ). get_or l 16 0) h.bytes)
 
 -- a byte written where there is no seed number; and no seed number told where row 4 holds
-pub byte_without_seed : DealtFrom text1 text1 text_x ended.NoSeed (7 ∷ 7 ∷ []) (7 ∷ 0 ∷ []) → ⊥
+pub byte_without_seed : DealtFrom text1 text1 text_x (Err NoSeed) (7 ∷ 7 ∷ []) (7 ∷ 0 ∷ []) → ⊥
 unfolding all_digits value_of numeral dimension_in seed_in first_held
 byte_without_seed h = omega (arith, ap (λ (l : List ℕ). get_or l 1 0) h.bytes)
 
-pub seed_before_4 : (before after : List ℕ) → DealtFrom text0 text2 text_x ended.NoSeed before after → ⊥
+pub seed_before_4 : (before after : List ℕ) → DealtFrom text0 text2 text_x (Err NoSeed) before after → ⊥
 unfolding all_digits value_of numeral dimension_in seed_in first_held
 seed_before_4 before after h =
-    let answers : ◌≡◌ {A = Answer (Maybe ℕ)} (accepted none) (refused 4) = h.answer in
+    let answers : ◌≡◌ {A = Answer (Option ℕ)} (accepted None) (refused 4) = h.answer in
     let same : ◌≡◌ {A = ℕ} 0 1 = cc in
     omega arith
 
 -- a file with another tolerance is not good
-pub another_tolerance : DealtFrom text1 text1 text0 (ended.Count 17) dealt0 (set dealt0 8 0x11) → ⊥
+pub another_tolerance : DealtFrom text1 text1 text0 (Ok 17) dealt0 (set dealt0 8 0x11) → ⊥
 unfolding all_digits value_of numeral seed_in big fields_of practice_fields
 another_tolerance h = omega (arith, ap (λ (f : Fields). f.tolerance) (h.good 0 17 refl refl).states_fields)

@@ -1,7 +1,7 @@
 -- "Hand-checked files": the ten starred entries, as one list and one statement over it, B's moments being those of document 02, S-1.
 -- Beside them, and apart from the ten, the average of B, the places "Where hand solutions go wrong", the last quotient's rounding, B with
 -- lists of times (document 02, S-3), what divisions leave (S-4), and how many row means are taken (S-8).
-use Rattle.std.specs.Prelude.{ℕ, ◌+◌, ◌<◌, List, [], ◌∷◌, ◌++◌, ◌≡◌, refl, length, set, replicate}
+use Rattle.std.specs.Prelude.{ℕ, ◌+◌, ◌<◌, List, [], ◌∷◌, ◌++◌, ◌≡◌, refl, length, set, replicate, None, Some}
 use Rattle.std.proofs.Common.{arith, lit<}
 use Rattle.definitions.specs.declared.Rests.{Rests}
 use Rattle.definitions.specs.Sums.{sum, largest, any_above, firsts, over, blocks, pick}
@@ -14,7 +14,6 @@ use Rattle.definitions.specs.Weights.{mode, rightward, leftward, weight, weight_
 use Rattle.definitions.specs.Level.{tail_bound, allowance, IsLevel, passes?, first_from, level, last_level}
 use Rattle.definitions.specs.Moment.{term, weighted, nearest, last_quotient, weighted_mean, moment, figure_of, cell, model_level, run_to, outcome, cells_after, count_after}
 use Rattle.definitions.specs.Series.{level_at, series_outcome, levels_after, blocks_after}
-use Rattle.definitions.specs.Maybe.{none, given}
 use Rattle.definitions.specs.Remainders.{mean_of, share_of, rests_at, rests_of, remainders_of, number_after, WorkedOut}
 use Rattle.definitions.specs.Fraction.{Same, ratio, total, power}
 use Rattle.definitions.specs.Average.{exact_mean, exact_share, exact_mix, exact_first, exact_next, exact_u, factorial, exact_weight, average_of, average}
@@ -218,7 +217,7 @@ uneven_chain = chain_of (model_of uneven_b)
 -- at state 2, counted from 1, each division of U(3,2) leaves something, and 3 is the level:
 -- 999,999 × 681069691357 + 1 × 413580246912 is 681069423867 × 1,000,000 and 555,555; 4 × 722221944443 is 320987530863 × 9 and 5;
 -- 3 × 681069423867 + 2 × 320987530863 is 537036666665 × 5 and 2
-pub uneven_rests : remainders_of uneven_b 2 3 2 ≡ accepted (given (record { mean = 555555; share = 5; mix = 2 }))
+pub uneven_rests : remainders_of uneven_b 2 3 2 ≡ accepted (Some (record { mean = 555555; share = 5; mix = 2 }))
 unfolding sum largest any_above big distributions jump_rate row_sum uniform_rate c max_reward jump_millionths framing quantities jumps first_held row_mean reward_share mix next_entry first_vectors next_vectors U mode rightward leftward weight weight_sum tail_bound allowance passes? first_from level model_level rests_at rests_of remainders_of
 uneven_rests = refl
 
@@ -227,11 +226,11 @@ unfolding sum largest big distributions jump_rate row_sum uniform_rate c max_rew
 uneven_quotients = (refl, refl, refl)
 
 -- no other remainder gives its dividend back with that quotient, and each is below its divisor
-pub uneven_whole : (x : Rests) → WorkedOut (accepted (given x)) uneven_b 2 3 2 → (x.mean ≡ 555555) × (x.share ≡ 5) × (x.mix ≡ 2)
+pub uneven_whole : (x : Rests) → WorkedOut (accepted (Some x)) uneven_b 2 3 2 → (x.mean ≡ 555555) × (x.share ≡ 5) × (x.mix ≡ 2)
 unfolding sum largest big distributions jump_rate row_sum uniform_rate c max_reward row_mean reward_share mix next_entry first_vectors next_vectors U
 uneven_whole x h = (omega (arith, h.mean.whole), omega (arith, h.share.whole), omega (arith, h.mix.whole))
 
-pub uneven_below : (x : Rests) → WorkedOut (accepted (given x)) uneven_b 2 3 2 → (x.mean < 1000000) × (x.share < 9) × (x.mix < 5)
+pub uneven_below : (x : Rests) → WorkedOut (accepted (Some x)) uneven_b 2 3 2 → (x.mean < 1000000) × (x.share < 9) × (x.mix < 5)
 unfolding sum largest big distributions jump_rate row_sum uniform_rate max_reward
 uneven_below x h = (omega (arith, h.mean.rest), omega (arith, h.share.rest), omega (arith, h.mix.rest))
 
@@ -244,7 +243,7 @@ pub record Asked : Type 0 where
 
 abbrev pub NoneOf : List Asked → Type 0
 NoneOf [] = Unit {0}
-NoneOf (a ∷ rest) = (remainders_of a.file a.state a.jumps a.moment ≡ accepted none) × NoneOf rest
+NoneOf (a ∷ rest) = (remainders_of a.file a.state a.jumps a.moment ≡ accepted None) × NoneOf rest
 
 -- none past each limit, B's level being 3, and at 0
 abbrev pub asked_outside : List Asked
@@ -270,5 +269,5 @@ unfolding sum largest any_above big distributions jump_rate row_sum uniform_rate
 refusals_first = (refl, refl, refl)
 
 -- remainders that are given are written; else the numbers stay
-pub numbers_after : (number_after (accepted (given (record { mean = 5; share = 2; mix = 1 }))) (λ x. x.share) 7 ≡ 2) × (number_after (accepted none) (λ x. x.share) 7 ≡ 7) × (number_after (refused 3) (λ x. x.share) 7 ≡ 7)
+pub numbers_after : (number_after (accepted (Some (record { mean = 5; share = 2; mix = 1 }))) (λ x. x.share) 7 ≡ 2) × (number_after (accepted None) (λ x. x.share) 7 ≡ 7) × (number_after (refused 3) (λ x. x.share) 7 ≡ 7)
 numbers_after = (refl, refl, refl)

@@ -3,12 +3,12 @@
 -- module for each of its sections, in its order. Theorems has what the papers say beside the calls.
 -- Numeral and Dealing are of no paper: they say how the program that deals practice files reads its arguments, and what it answers.
 -- The paper counts states from 1. Here states and cells are counted from 0: the paper's state i is i − 1 here. Moments r are counted from 1 in both.
-pub mod Maybe
 pub mod Sums
 pub mod Division
 pub mod Bytes
 pub mod File
 pub mod Chain
+pub mod Refusal
 pub mod Rules
 pub mod Vectors
 pub mod Weights

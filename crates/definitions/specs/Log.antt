@@ -1,8 +1,6 @@
 -- A whole log in one call: a start, its stays one after another, and then every rate. It is of no paper: a record does not pass to C, and what a record
 -- tells is a function of the stays offered to it.
 use Rattle.std.specs.Prelude.{ℕ, zero, suc, ◌+◌, ◌*◌, ◌-◌, ◌/◌, ◌%◌, ◌≤◌, ◌<◌, List, [], ◌∷◌, ◌++◌, false, not, ◌||◌, ◌≡◌, length, get_or, take, ltb, eqb}
-use Rattle.definitions.specs.declared.Logged.{Logged}
-use Rattle.definitions.specs.declared.Logged.TheVariants as ended
 use Rattle.definitions.specs.Sums.{any_above, over, blocks, pick}
 use Rattle.definitions.specs.File.{state_count}
 use Rattle.definitions.specs.Chain.{model_of, row_sum}
@@ -45,11 +43,6 @@ log_rows M W size answers rates =
 -- what it answers: the number of stays accepted, or the first row that holds
 unfoldable pub log_outcome : ℕ → ℕ → List ℕ → ℕ → ℕ → Answer ℕ
 log_outcome M W log answers rates = first_held (log_rows M W (length log) answers rates) (length (taken M (offered log)))
-
--- the answer for each case of the enum
-abbrev pub logged_answer : Logged → Answer ℕ
-logged_answer (ended.Stays n) = accepted n
-logged_answer (ended.Refused k) = refused k
 
 -- the number of an answer to a stay: 0 where it is taken, else that of its refusal
 abbrev pub answer_number : Answer (Unit {0}) → ℕ

@@ -1,8 +1,6 @@
 -- "Moment": A, the last quotient (rounded as document 02, S-1, has it), the start figure (S-5), the cells after a call, and its outcome, with the count of row means (S-8).
 use Rattle.std.specs.Prelude.{ℕ, suc, ◌+◌, ◌*◌, ◌-◌, ◌/◌, ◌%◌, ◌≤◌, List, ltb}
 use Rattle.definitions.specs.declared.Run.{Run}
-use Rattle.definitions.specs.declared.Outcome.{Outcome}
-use Rattle.definitions.specs.declared.Outcome.TheVariants as ended
 use Rattle.definitions.specs.Sums.{sum, over, pick}
 use Rattle.definitions.specs.Chain.{Model, model_of, chain_of, jump_millionths}
 use Rattle.definitions.specs.Rules.{Answer, accepted, refused, block_size, rows, first_held}
@@ -78,11 +76,6 @@ run_of m = run_to m (model_level m)
 -- what a call answers of the file s lent with a number of cells: the first row that holds, or the run
 unfoldable pub outcome : List ℕ → ℕ → Answer Run
 outcome s cells = first_held (rows s cells) (run_of (model_of s))
-
--- the papers' answer for each case of an outcome: accepted with the level N and the number of row means, or refused with the number of a row
-abbrev pub answer_of : Outcome → Answer Run
-answer_of (ended.Solved run) = accepted run
-answer_of (ended.Refused k) = refused k
 
 -- the papers' values for each answer: all answer cells after the call, from those before it
 unfoldable pub cells_after : Answer Run → List ℕ → List ℕ → List ℕ

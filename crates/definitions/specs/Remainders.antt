@@ -1,9 +1,6 @@
 -- Document 02, S-4, "Hand back what a division leaves": the remainders of V, W and U for one state, n and r, and what a call answers that gives them.
-use Rattle.std.specs.Prelude.{ℕ, ◌+◌, ◌-◌, ◌%◌, List, Bool, ◌||◌}
+use Rattle.std.specs.Prelude.{ℕ, ◌+◌, ◌-◌, ◌%◌, List, Bool, ◌||◌, Option, None, Some}
 use Rattle.definitions.specs.declared.Rests.{Rests}
-use Rattle.definitions.specs.declared.Remainders.{Remainders}
-use Rattle.definitions.specs.declared.Remainders.TheVariants as answered
-use Rattle.definitions.specs.Maybe.{Maybe, none, given}
 use Rattle.definitions.specs.Sums.{pick}
 use Rattle.definitions.specs.Division.{Divides}
 use Rattle.definitions.specs.Chain.{Model, model_of, Chain, chain_of}
@@ -47,23 +44,17 @@ abbrev pub any_outside : Model → ℕ → ℕ → ℕ → Bool
 any_outside m state n r = outside 1 m.states state || outside 1 (model_level m) n || outside 1 m.highest r
 
 -- what a model gives: none where one of them is outside
-unfoldable pub rests_of : Model → ℕ → ℕ → ℕ → Maybe Rests
-rests_of m state n r = pick (any_outside m state n r) none (given (rests_at (chain_of m) n r (state - 1)))
+unfoldable pub rests_of : Model → ℕ → ℕ → ℕ → Option Rests
+rests_of m state n r = pick (any_outside m state n r) None (Some (rests_at (chain_of m) n r (state - 1)))
 
 -- what a call answers of the file s, of either version: the first of rows 1 to 12 and 16 that holds, before all else
-unfoldable pub remainders_of : List ℕ → ℕ → ℕ → ℕ → Answer (Maybe Rests)
+unfoldable pub remainders_of : List ℕ → ℕ → ℕ → ℕ → Answer (Option Rests)
 remainders_of s state n r = first_held (file_rows 1 2 s) (rests_of (model_of s) state n r)
 
--- document 02's answer for each case of the enum
-abbrev pub remainders_answer : Remainders → Answer (Maybe Rests)
-remainders_answer (answered.Given x) = accepted (given x)
-remainders_answer answered.Nothing = accepted none
-remainders_answer (answered.Refused k) = refused k
-
 -- a number that is lent for one of the remainders: what it holds after a call, from what it held before. It is written where they are given, and stays else.
-abbrev pub number_after : Answer (Maybe Rests) → (Rests → ℕ) → ℕ → ℕ
-number_after (accepted (given x)) which before = which x
-number_after (accepted none) which before = before
+abbrev pub number_after : Answer (Option Rests) → (Rests → ℕ) → ℕ → ℕ
+number_after (accepted (Some x)) which before = which x
+number_after (accepted None) which before = before
 number_after (refused k) which before = before
 
 -- the three divisions of a step at i, from before, which is U(n−1,r), and same, which is U(n,r−1), to the entry u, and what they leave: V by E, W by F, and U by
@@ -78,7 +69,7 @@ abbrev pub Worked : Chain → ℕ → ℕ → ℕ → Rests → Type 0
 Worked ch n r i x = StepDivides ch n r (U ch (n - 1) r) (U ch n (r - 1)) i (U ch n r i) x
 
 -- of an answer: remainders that are given are those of U(n,r) at the state
-abbrev pub WorkedOut : Answer (Maybe Rests) → List ℕ → ℕ → ℕ → ℕ → Type 0
-WorkedOut (accepted (given x)) s state n r = Worked (chain_of (model_of s)) n r (state - 1) x
-WorkedOut (accepted none) s state n r = Unit {0}
+abbrev pub WorkedOut : Answer (Option Rests) → List ℕ → ℕ → ℕ → ℕ → Type 0
+WorkedOut (accepted (Some x)) s state n r = Worked (chain_of (model_of s)) n r (state - 1) x
+WorkedOut (accepted None) s state n r = Unit {0}
 WorkedOut (refused k) s state n r = Unit {0}

@@ -1,7 +1,7 @@
 -- "What stops a file": the table's rows in its order, in parts that the tables of several calls share, and what a table answers.
-use Rattle.std.specs.Prelude.{ℕ, zero, suc, ◌+◌, ◌*◌, ◌-◌, List, [], ◌∷◌, ◌++◌, Bool, false, not, ◌&&◌, ◌||◌, length, get_or, ltb, leb, eqb}
-use Rattle.definitions.specs.declared.Judgement.{Judgement}
-use Rattle.definitions.specs.declared.Judgement.TheVariants as judged
+use Rattle.std.specs.Prelude.{ℕ, zero, suc, ◌+◌, ◌*◌, ◌-◌, List, [], ◌∷◌, ◌++◌, Bool, false, not, ◌&&◌, ◌||◌, length, get_or, ltb, leb, eqb, Result, Ok, Err}
+use Rattle.definitions.specs.declared.Refusal.{Refusal}
+use Rattle.definitions.specs.Refusal.{row_of}
 use Rattle.definitions.specs.Sums.{sum, any_above, pick}
 use Rattle.definitions.specs.File.{length_field, version, state_count, highest_moment, time_field, distributions}
 use Rattle.definitions.specs.Chain.{Model, model_of, row_sum, uniform_rate, block_of}
@@ -138,7 +138,7 @@ judgement s cells = judged_by (rows s cells)
 unfoldable pub series_judgement : List ℕ → List ℕ → ℕ → ℕ → Answer (Unit {0})
 series_judgement s times levels cells = judged_by (series_rows s times levels cells)
 
--- document 01's answer for each case of a judgement
-abbrev pub verdict : Judgement → Answer (Unit {0})
-verdict judged.Accepted = accepted tt
-verdict (judged.Refused k) = refused k
+-- the papers' answer for each case of what a call hands back: accepted with what Ok holds, or refused with the number of the refusal's row
+abbrev pub answer_of : {A : Type 0} → Result A Refusal → Answer A
+answer_of (Ok a) = accepted a
+answer_of (Err e) = refused (row_of e)

@@ -1,7 +1,5 @@
 -- Document 02, S-3, "One model, several times": the levels and the blocks of a file for a list of times, demand 3 of them, and the count of row means (S-8).
 use Rattle.std.specs.Prelude.{ℕ, ◌*◌, ◌<◌, ◌≤◌, List, ◌≡◌, length, get_or, take, drop}
-use Rattle.definitions.specs.declared.Series.{Series}
-use Rattle.definitions.specs.declared.Series.TheVariants as series
 use Rattle.definitions.specs.Sums.{largest, over, blocks}
 use Rattle.definitions.specs.File.{with_time}
 use Rattle.definitions.specs.Chain.{Model, model_of, at_time, jump_millionths}
@@ -26,11 +24,6 @@ means_of_all s times = means_to (model_of s) (largest (length times) (level_at s
 -- row means
 unfoldable pub series_outcome : List ℕ → List ℕ → ℕ → ℕ → Answer ℕ
 series_outcome s times levels cells = first_held (series_rows s times levels cells) (means_of_all s times)
-
--- document 02's answer for each case of the enum
-abbrev pub series_answer : Series → Answer ℕ
-series_answer (series.Solved n) = accepted n
-series_answer (series.Refused k) = refused k
 
 -- document 02's values for each answer: all level cells after the call, from those before it
 unfoldable pub levels_after : Answer ℕ → List ℕ → List ℕ → List ℕ → List ℕ

@@ -1,8 +1,6 @@
 -- Document 02, S-12, "Rates from the workshop log": stays, which of those offered are accepted, the last of these, their tally, and the rates.
 -- States are counted from 1 here, as the lab logs them. A list of stays has the newest first.
 use Rattle.std.specs.Prelude.{ℕ, suc, ◌+◌, ◌*◌, ◌/◌, ◌≤◌, List, [], ◌∷◌, ◌++◌, Bool, ◌&&◌, ◌||◌, ◌≡◌, length, take, eqb}
-use Rattle.definitions.specs.declared.Reading.{Reading}
-use Rattle.definitions.specs.declared.Reading.TheVariants as read
 use Rattle.definitions.specs.Sums.{sum, pick}
 use Rattle.definitions.specs.Rules.{Answer, accepted, refused, Rows, outside, state_row, judged_by}
 
@@ -74,11 +72,6 @@ rate_of count hours = pick (eqb hours 0) 0 (count * 1000000 / hours)
 
 abbrev pub rate_in : ℕ → ℕ → List Stay → ℕ
 rate_in i j l = rate_of (count_in i j l) (hours_in i l)
-
--- the answer for each case of the enum
-abbrev pub reading_answer : Reading → Answer ℕ
-reading_answer (read.Rate x) = accepted x
-reading_answer (read.Refused k) = refused k
 
 -- what a record of stays tells: M, the window size, the count of i to j, and the hours in i
 pub record Tallies : Type 0 where

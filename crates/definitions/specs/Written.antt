@@ -1,7 +1,5 @@
 -- What a call leaves that writes bytes at the start of what is lent, and what one answers that writes a file.
 use Rattle.std.specs.Prelude.{ℕ, List, ◌++◌, length, drop}
-use Rattle.definitions.specs.declared.Written.{Written}
-use Rattle.definitions.specs.declared.Written.TheVariants as ended
 use Rattle.definitions.specs.Rules.{Answer, accepted, refused, saying, Rows, room, first_held}
 
 -- a buffer after a text was written at its start: the text, and the buffer's later bytes as they were
@@ -20,8 +18,3 @@ count_of a = saying length a
 abbrev pub bytes_after : Answer (List ℕ) → List ℕ → List ℕ
 bytes_after (accepted file) out = written file out
 bytes_after (refused k) out = out
-
--- the answer for each case of the enum
-abbrev pub written_answer : Written → Answer ℕ
-written_answer (ended.Count n) = accepted n
-written_answer (ended.Refused k) = refused k

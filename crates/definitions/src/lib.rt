@@ -1,7 +1,10 @@
-// The answers, sizes and headers that the calculator's functions share. The paper's answer for each case of an enum is defined in specs/:
-// of a Judgement in Rules.antt, of an Outcome in Moment.antt, of a Series in Series.antt, of Remainders in Remainders.antt, of Written in
-// Written.antt, of a Dealing in Dealing.antt, of a Reading in Stays.antt, of a Logged in Log.antt. The chain that stands in arrays of given Sizes is defined in Chain.antt.
+// The answers, sizes and headers that the calculator's functions share. The papers' answer for each case of a Result is defined in specs/Rules.antt
+// (`answer_of`), that of a call which deals a practice file in Dealing.antt. The chain that stands in arrays of given Sizes is defined in Chain.antt.
 #![tactic(auto)]
+
+ghost use Rattle.std.specs.Prelude.{◌≡◌};
+ghost use Rattle.definitions.specs.Refusal.{row_of};
+ghost use Rattle.definitions.specs.declared.NotDealt.TheVariants.{Refused};
 
 // ONE: 10^12 ticks.
 pub const ONE: u64 = 1_000_000_000_000;
@@ -12,11 +15,73 @@ pub const ALL_WEIGHT: u64 = 1_000_000;
 // A list has at most this many times.
 pub const MOST_TIMES: usize = 8;
 
-// What a table of refusals says of a file: accepted, or the number of its first row that holds.
-#[derive(Drop)]
-pub enum Judgement {
-    Accepted,
-    Refused(u8),
+// Why a call refuses: the row of its table of refusals that stops it, under the number that the papers give it.
+#[derive(Clone, Copy, Debug, PartialEq, Eq)]
+pub enum Refusal {
+    // Fewer than 13 bytes.
+    TooShort = 1,
+    // The length field is not the count of the bytes after it.
+    LengthField = 2,
+    // A version that the call does not admit.
+    Version = 3,
+    // M is not from 1 to 64.
+    States = 4,
+    // R is not from 1 to 8.
+    HighestMoment = 5,
+    // The length is not that of a file with so many states; or the log is no whole number of stays.
+    Size = 6,
+    // The tolerance is 0 or too large.
+    Tolerance = 7,
+    // The time is 0, or a list of times starts with 0.
+    Time = 8,
+    // A reward rate is above 1,000,000.
+    RewardTooLarge = 9,
+    // All reward rates are 0.
+    NoReward = 10,
+    // A row of rates sums to more than 10,000,000.
+    RatesTooLarge = 11,
+    // E × T is above 256,000,000.
+    TooManyJumps = 12,
+    // Too few cells or bytes are lent.
+    Room = 13,
+    // A list of times is empty, or has more than 8.
+    TimesCount = 14,
+    // A time is not above the one before it.
+    TimesOrder = 15,
+    // The starting weights do not sum to 1,000,000.
+    StartWeights = 16,
+    // A state other than the first has a starting weight.
+    WeightElsewhere = 17,
+    // A state of a stay is outside 1 to M, or both are the same.
+    Pair = 20,
+    // The hours of a stay are not from 1 to 10,000.
+    Hours = 21,
+    // A window size is not from 1 to 256.
+    Window = 22,
+}
+
+impl Refusal {
+    // The number of its row.
+    pub fn row(self) -> u8
+        ensures { result ≡ row_of self }
+    {
+        self as u8
+    }
+}
+
+// Why no practice file is dealt from three texts: the refusal, or that the third text says no seed number.
+#[derive(Clone, Copy, Debug, PartialEq, Eq)]
+pub enum NotDealt {
+    Refused(Refusal),
+    NoSeed,
+}
+
+impl From<Refusal> for NotDealt {
+    ghost from_gives = { λ r e. e ≡ Refused r };
+
+    fn from(refusal: Refusal) -> NotDealt {
+        NotDealt::Refused(refusal)
+    }
 }
 
 // What the run of a file has besides its block: the truncation level N, and the number of row means that it took.
@@ -24,21 +89,6 @@ pub enum Judgement {
 pub struct Run {
     pub level: u64,
     pub means: u64,
-}
-
-// What a call that takes a file and fills its block answers: its run, or the number of the refusal.
-#[derive(Drop)]
-pub enum Outcome {
-    Solved(Run),
-    Refused(u8),
-}
-
-// What a call that takes a file and a list of times, and fills a level and a block for each time, answers: the number of row
-// means that it took for all of them, or the number of the refusal.
-#[derive(Drop)]
-pub enum Series {
-    Solved(u64),
-    Refused(u8),
 }
 
 // Quotient and remainder of a division.
@@ -55,45 +105,6 @@ pub struct Rests {
     pub mean: u64,
     pub share: u64,
     pub mix: u64,
-}
-
-// What a call that takes a file, a state, n and r answers: the remainders; nothing where the state is outside 1 to M, n outside
-// 1 to N or r outside 1 to R; or the number of the refusal.
-#[derive(Drop)]
-pub enum Remainders {
-    Given(Rests),
-    Nothing,
-    Refused(u8),
-}
-
-// What a call that writes a file answers: the count of bytes written, or the number of the refusal.
-#[derive(Drop)]
-pub enum Written {
-    Count(usize),
-    Refused(u8),
-}
-
-// What a call that deals a practice file from three texts answers: the count of bytes written, the number of the refusal, or that
-// the third text says no seed number.
-#[derive(Drop)]
-pub enum Dealing {
-    Count(usize),
-    Refused(u8),
-    NoSeed,
-}
-
-// What a call that reads a rate answers: the rate, in millionths per hour, or the number of the refusal.
-#[derive(Drop)]
-pub enum Reading {
-    Rate(u32),
-    Refused(u8),
-}
-
-// What a call that takes a whole log answers: the number of its stays that were accepted, or the number of the refusal.
-#[derive(Drop)]
-pub enum Logged {
-    Stays(u64),
-    Refused(u8),
 }
 
 // The numbers of a chain that stands in arrays: M, the number of states; R, the highest moment; the cells of a block; E, the

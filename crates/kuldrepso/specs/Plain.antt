@@ -1,9 +1,8 @@
 -- The answer of a call as one plain number, for callers that have no enum of Rattle's.
-use Rattle.std.specs.Prelude.{ℕ, ◌+◌, ◌-◌, ◌≡◌, ltb}
+use Rattle.std.specs.Prelude.{ℕ, ◌+◌, ◌-◌, ◌≡◌, ltb, Option, None, Some}
 use Rattle.definitions.specs.Sums.{pick}
 use Rattle.definitions.specs.declared.Rests.{Rests}
 use Rattle.definitions.specs.Rules.{Answer, accepted, refused}
-use Rattle.definitions.specs.Maybe.{Maybe, none, given}
 
 -- what refusals start from
 abbrev pub refusals_from : ℕ
@@ -15,14 +14,14 @@ plain_answer (accepted n) = n
 plain_answer (refused k) = refusals_from + k
 
 -- remainders that are given go out as 0, and none as 1
-abbrev pub given_or_none : Maybe Rests → ℕ
-given_or_none (given x) = 0
-given_or_none none = 1
+abbrev pub given_or_none : Option Rests → ℕ
+given_or_none (Some x) = 0
+given_or_none None = 1
 
 -- an answer with the numbers that are lent for the remainders in the place of those that it gives
-abbrev pub with_numbers : Answer (Maybe Rests) → Rests → Answer (Maybe Rests)
-with_numbers (accepted (given x)) y = accepted (given y)
-with_numbers (accepted none) y = accepted none
+abbrev pub with_numbers : Answer (Option Rests) → Rests → Answer (Option Rests)
+with_numbers (accepted (Some x)) y = accepted (Some y)
+with_numbers (accepted None) y = accepted None
 with_numbers (refused k) y = refused k
 
 -- the answer that a plain number stands for: below refusals_from an acceptance, any other a refusal

@@ -1,5 +1,5 @@
 -- The plain answer of a call says what its outcome says: whether it accepts, and the number.
-use Rattle.std.specs.Prelude.{ℕ, ◌+◌, ◌≤◌, ◌<◌, ◌≡◌, refl, List, length}
+use Rattle.std.specs.Prelude.{ℕ, ◌+◌, ◌≤◌, ◌<◌, ◌≡◌, refl, List, length, Option, None, Some}
 use Rattle.std.proofs.Common.{arith, sym, ◌∙◌, ap, lt-ltb, le-ltb}
 use Rattle.definitions.specs.declared.Rests.{Rests}
 use Rattle.definitions.specs.declared.Run.{Run}
@@ -7,7 +7,6 @@ use Rattle.definitions.specs.Chain.{model_of}
 use Rattle.definitions.specs.Rules.{Answer, accepted, refused, saying, file_judgement}
 use Rattle.definitions.specs.Moment.{model_level, run_of, outcome}
 use Rattle.definitions.specs.Series.{series_outcome}
-use Rattle.definitions.specs.Maybe.{Maybe, none, given}
 use Rattle.definitions.specs.Written.{count_of}
 use Rattle.laws.specs.Acceptance.{length_max, accepted_model, accepted_file, accepted_series}
 use Rattle.laws.specs.MomentLaws.{outcome_accepted, run_judged}
@@ -59,12 +58,12 @@ pub series_told : (s times : List ℕ) (levels cells : ℕ) (a : Answer ℕ) →
 series_told s times levels cells a e r q = telling (saying (λ n. length times) a) q (rw e at (series_meant s times levels cells))
 
 -- remainders go out as 0 or 1, and that number tells whether they are given
-pub remainders_told : {b : Answer (Maybe Rests)} (a : Answer (Maybe Rests)) → b ≡ a → (r : ℕ) → r ≡ plain_answer (saying given_or_none a) → Tells r (saying given_or_none a)
+pub remainders_told : {b : Answer (Option Rests)} (a : Answer (Option Rests)) → b ≡ a → (r : ℕ) → r ≡ plain_answer (saying given_or_none a) → Tells r (saying given_or_none a)
 remainders_told a same r q = telling (saying given_or_none a) q (answer_meant given_or_none a (λ x e. small x))
   where
-    small : (x : Maybe Rests) → given_or_none x < refusals_from
-    small (given x) = omega arith
-    small none = omega arith
+    small : (x : Option Rests) → given_or_none x < refusals_from
+    small (Some x) = omega arith
+    small None = omega arith
 
 -- a file that is written, and that calls accept, goes out as its count of bytes, at most 16,653
 count_max : (t : List ℕ) → file_judgement 1 2 t ≡ accepted tt → length t ≤ 16653

@@ -1,12 +1,11 @@
 -- What the divisions of U(n,r) leave: quotient, divisor and remainder of each, and when a call gives them.
-use Rattle.std.specs.Prelude.{ℕ, zero, suc, ◌+◌, ◌*◌, ◌-◌, ◌/◌, ◌%◌, ◌≤◌, ◌<◌, ◌≡◌, refl, Bool, true, false, ◌||◌, List}
+use Rattle.std.specs.Prelude.{ℕ, zero, suc, ◌+◌, ◌*◌, ◌-◌, ◌/◌, ◌%◌, ◌≤◌, ◌<◌, ◌≡◌, refl, Bool, true, false, ◌||◌, List, None, Some}
 use Rattle.std.proofs.Common.{arith, ap, ap₂}
 use Rattle.definitions.specs.declared.Rests.{Rests}
 use Rattle.definitions.specs.Chain.{Model, Chain, model_of, chain_of}
 use Rattle.definitions.specs.Rules.{Answer, accepted, refused, outside, file_rows, file_judgement}
 use Rattle.definitions.specs.Vectors.{row_total, row_mean, reward_product, reward_share, mixed, mix, next_entry, U}
 use Rattle.definitions.specs.Moment.{model_level}
-use Rattle.definitions.specs.Maybe.{none, given}
 use Rattle.definitions.specs.Remainders.{mean_dividend, share_dividend, mix_dividend, rests_in, rests_at, any_outside, rests_of, remainders_of, StepDivides, Worked, WorkedOut}
 use Rattle.laws.specs.Rounding.{divides}
 use Rattle.laws.specs.RuleLaws.{also_refused, also_accepted}
@@ -58,12 +57,12 @@ rests_same a b e n r i l = same_rests _ _ (ap₂ ◌%◌ total e.rate) (ap₂ �
     sum = ap₂ (mixed n r) (ap₂ ◌/◌ total e.rate) (ap₂ ◌/◌ product e.largest_reward)
 
 -- outside their limits state, n and r have none
-pub rests_none : (m : Model) (state n r : ℕ) → any_outside m state n r ≡ true → rests_of m state n r ≡ none
+pub rests_none : (m : Model) (state n r : ℕ) → any_outside m state n r ≡ true → rests_of m state n r ≡ None
 unfolding rests_of
 rests_none m state n r h = rw h
 
 -- within them they have those of U(n,r)
-pub rests_given : (m : Model) (state n r : ℕ) → any_outside m state n r ≡ false → rests_of m state n r ≡ given (rests_at (chain_of m) n r (state - 1))
+pub rests_given : (m : Model) (state n r : ℕ) → any_outside m state n r ≡ false → rests_of m state n r ≡ Some (rests_at (chain_of m) n r (state - 1))
 unfolding rests_of
 rests_given m state n r h = rw h
 
