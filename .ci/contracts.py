@@ -1,6 +1,6 @@
 #!/usr/bin/env python3
 """Fails where a `pub fn` under crates/ has no `ensures` before its body, and where a function of a library lends something by `&mut`
-that no `ensures` tells: for each such parameter x, `x.new` has to stand in one, by itself or handed to what the clause cites.
+that no `ensures` tells: for each such parameter x (`self` too), `x.new` has to stand in one, by itself or handed to what the clause cites.
 Tries itself on FORMS and LENT first."""
 
 import pathlib
@@ -10,7 +10,7 @@ from collections import namedtuple
 
 ROOT = pathlib.Path(__file__).resolve().parent.parent
 HEAD = re.compile(r'\b(pub\b)?\s*(?:\([^)]*\)\s*)?(?:(?:const|extern\s*"[^"]*")\s*)*\bfn\s+(\w+)')
-LENDS = re.compile(r"(\w+)\s*:\s*&\s*(?:'\w+\s+)?mut\b")
+LENDS = re.compile(r"(\w+)\s*:\s*&\s*(?:'\w+\s+)?mut\b|&\s*(?:'\w+\s+)?mut\s+(self)\b")
 CLAUSE = re.compile(r"\b(requires|ensures)\*?(?:\s+\w+)?\s*$")
 NO_CODE = re.compile(r"""//[^\n]*|"(?:\\.|[^"\\])*"|b'(?:\\.[^']*|[^'\\])'""", re.S)
 
@@ -26,6 +26,7 @@ FORMS = [
     "pub const fn f() @ {}",
     "pub fn f() // ensures {\n    @ {}",
     "pub fn f() @ {}\nfn g() ensures { 1 ≡ 1 } {}",
+    "pub fn f<F: Fn(usize) -> u64>(of: F) -> u64 @ { of(1) }",
     "fn g() -> u8 { let s = b\"ensures \\\" {\"; b'{' }\npub fn f<'a>(s: &'a [u8]) -> &'a [u8] @ { s }",
 ]
 CLAUSES = ["ensures { result ≡ g {n = 1} }", "ensures cells {\n        Unit\n    }", "ensures* cells { Unit }"]
@@ -39,6 +40,9 @@ LENT = [
     ("pub fn f(ab: &mut u8, b: &mut u8) ensures { ab.new ≡ 1 } {}", ["b"]),
     ("pub fn f(a: &mut S) ensures { length a.new.items ≡ 1 } {}", []),
     ("fn f(a: &u8, b: u8) -> u8 { let mut a = b; a }", []),
+    ("fn f<F: Fn(usize) -> u64, const N: usize>(of: F, a: &mut [u64; N]) ensures { 1 ≡ 1 } {}", ["a"]),
+    ("impl S {\n    fn f(&mut self, a: &mut u8) ensures { a.new ≡ 1 } {}\n}", ["self"]),
+    ("impl S {\n    fn f(&mut self) ensures { self.new ≡ 1 } {}\n}", []),
 ]
 
 
@@ -50,10 +54,23 @@ def code(text):
 Function = namedtuple("Function", "name line public spoke untold body end")
 
 
+def past_generics(text, place):
+    """The place after the type parameters, where there are some."""
+    if text[place] != "<":
+        return place
+    depth = 0
+    for place in range(place, len(text)):
+        depth += (text[place] == "<") - (text[place] == ">" and text[place - 1] != "-")
+        if depth == 0:
+            return place + 1
+    raise ValueError("type parameters without an end")
+
+
 def function(text, head):
     """The function whose header matches: whether an `ensures` stands before its body, which `&mut` parameters none tells, and where the body is."""
-    depth, clause_from, clause, ensures, lent, body = 0, head.end(), None, None, None, None
-    for place in range(head.end(), len(text)):
+    start = past_generics(text, head.end())
+    depth, clause_from, clause, ensures, lent, body = 0, start, None, None, None, None
+    for place in range(start, len(text)):
         sign = text[place]
         if sign == "{" and depth == 0:
             clause = CLAUSE.search(text, clause_from, place)
@@ -62,7 +79,7 @@ def function(text, head):
         if sign in ")]}" and depth == 0:
             part = text[clause_from:place + 1]
             if lent is None and sign == ")":
-                lent = LENDS.findall(part)
+                lent = [name or own for name, own in LENDS.findall(part)]
             elif body is not None:
                 told = ensures or ""
                 untold = [name for name in lent or [] if not re.search(rf"\b{name}\.new\b", told)]

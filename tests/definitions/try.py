@@ -58,7 +58,7 @@ use Rattle.std.proofs.Common.{arith}
 use Rattle.definitions.specs.Chain.{model_of, chain_of}
 use Rattle.definitions.specs.Rules.{accepted, refused, saying, last_time}
 use Rattle.definitions.specs.Moment.{count_after}
-use Rattle.definitions.specs.Maybe.{given, none}
+use Rattle.std.specs.Prelude.{Some, None}
 use Rattle.definitions.specs.Remainders.{number_after, mean_of, share_of}
 use Rattle.definitions.specs.Written.{count_of, bytes_after}
 use Rattle.definitions.specs.Order.{Raises}
@@ -77,8 +77,8 @@ ANSWER = {
     "level": "accepted (record {{ level = {}; means = {} }})",
     "refused": "refused {}",
     "times": "accepted {}",
-    "given": "accepted (given (record {{ mean = {}; share = {}; mix = {} }}))",
-    "none": "accepted none",
+    "given": "accepted (Some (record {{ mean = {}; share = {}; mix = {} }}))",
+    "none": "accepted None",
     "bytes": "accepted {}",
 }
 # For the other parts, what is written is all.
