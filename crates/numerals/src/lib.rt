@@ -5,53 +5,32 @@
 
 ghost use Rattle.std.specs.Prelude.{◌≡◌};
 ghost use Rattle.definitions.specs.Numeral.{numeral};
-ghost use Rattle.numerals.specs.Answer.{numeral_answer};
 ghost use Rattle.numerals.specs.Reading.{with_digit};
 
-// What a text says: a number, or nothing that counts.
-#[derive(Drop)]
-pub enum Numeral {
-    Is(u64),
-    Nothing,
-}
-
 // The number with one digit more, where the byte is a digit and that number is at most the limit.
-fn with_digit(value: u64, byte: u8, most: u64) -> Numeral
-    ensures { numeral_answer result ≡ with_digit most value byte }
+#[tactic(auto, unfolding(crate::specs::Reading::with_digit))]
+fn with_digit(value: u64, byte: u8, most: u64) -> Option<u64>
+    ensures { result ≡ with_digit most value byte }
 {
-    if byte < b'0' {
-        return Numeral::Nothing;
+    if !byte.is_ascii_digit() {
+        return None;
     }
-    if byte > b'9' {
-        return Numeral::Nothing;
-    }
-    if value > most / 10 {
-        return Numeral::Nothing;
-    }
-    let tens = value * 10;
-    let digit = (byte - b'0') as u64;
-    if digit > most - tens {
-        return Numeral::Nothing;
-    }
-    Numeral::Is(tens + digit)
+    let digit = u64::from(byte - b'0');
+    let more = value.checked_mul(10)?.checked_add(digit)?;
+    if more <= most { Some(more) } else { None }
 }
 
 // The number that the text says: one digit or more and nothing else, leading zeros among them, and a number of
 // at most `most`.
-pub fn number_of(text: &[u8], most: u64) -> Numeral
-    ensures { numeral_answer result ≡ numeral most text.now }
+pub fn number_of(text: &[u8], most: u64) -> Option<u64>
+    ensures { result ≡ numeral most text.now }
 {
-    if text.len() == 0 {
-        return Numeral::Nothing;
+    if text.is_empty() {
+        return None;
     }
-    let mut value: u64 = 0;
-    let mut i = 0;
-    while i < text.len() {
-        let Numeral::Is(more) = with_digit(value, text[i], most) else {
-            return Numeral::Nothing;
-        };
-        value = more;
-        i += 1;
+    let mut value = 0;
+    for &byte in text {
+        value = with_digit(value, byte, most)?;
     }
-    Numeral::Is(value)
+    Some(value)
 }
