@@ -1,42 +1,38 @@
 -- The laws of `divided_of`, which callers cite: none needs its definition. Assumes nothing.
-use Rattle.std.specs.Prelude.{◌≡◌, refl, Bool, true, false, ℕ, ◌*◌, ◌/◌, ◌%◌, ◌^◌, ◌<◌, ◌≤◌}
+use Rattle.std.specs.Prelude.{◌≡◌, ℕ, ◌*◌, ◌/◌, ◌%◌, ◌^◌, ◌<◌, ◌≤◌, Option, Some, None}
 use Rattle.std.proofs.Common.{◌∙◌, mul-le-mul_left, arith, le-leb, eq-eqb, ne_eqb}
 use Rattle.std.proofs.lemmas.Bool.{lt-leb}
+use Rattle.std.proofs.lemmas.Bool.Decides.{nat_tests}
 use Rattle.definitions.specs.declared.Division.{Division}
 use Rattle.definitions.specs.Division.{division}
 use Rattle.laws.specs.Rounding.{quotient_at_most}
-use Rattle.definitions.specs.Maybe.{Maybe, none, given}
-use Rattle.muldiv.specs.MulDiv.{unless, fitted, divided_of, Scalable}
-
-unless_none : (t : Bool) → unless t none ≡ none
-unless_none true = refl
-unless_none false = refl
+use Rattle.muldiv.specs.MulDiv.{fitted, divided_of, Scalable}
 
 -- 1. where there is a number, and where there is none
 
-pub fitted_small : (q r : ℕ) → q < 2 ^ 64 → fitted q r ≡ given (record { quotient = q; remainder = r })
+pub fitted_small : (q r : ℕ) → q < 2 ^ 64 → fitted q r ≡ Some (record { quotient = q; remainder = r })
 unfolding fitted
 fitted_small q r h = simp (lt-leb (2 ^ 64) q h)
 
-pub fitted_large : (q r : ℕ) → 2 ^ 64 ≤ q → fitted q r ≡ none
+pub fitted_large : (q r : ℕ) → 2 ^ 64 ≤ q → fitted q r ≡ None
 unfolding fitted
 fitted_large q r h = simp (le-leb (2 ^ 64) q h)
 
-pub zero_divisor : (a b c : ℕ) → c ≡ 0 → divided_of a b c ≡ none
+pub zero_divisor : (a b c : ℕ) → c ≡ 0 → divided_of a b c ≡ None
 unfolding divided_of
 zero_divisor a b c h = simp (eq-eqb c 0 h)
 
-pub large_a : (a b c : ℕ) → 2 ^ 62 ≤ a → divided_of a b c ≡ none
+pub large_a : (a b c : ℕ) → 2 ^ 62 ≤ a → divided_of a b c ≡ None
 unfolding divided_of
-large_a a b c h = simp (le-leb (2 ^ 62) a h, unless_none)
+large_a a b c h = grind (arith, nat_tests)
 
-pub large_b : (a b c : ℕ) → 2 ^ 62 ≤ b → divided_of a b c ≡ none
+pub large_b : (a b c : ℕ) → 2 ^ 62 ≤ b → divided_of a b c ≡ None
 unfolding divided_of
-large_b a b c h = simp (le-leb (2 ^ 62) b h, unless_none)
+large_b a b c h = grind (arith, nat_tests)
 
-pub large_c : (a b c : ℕ) → 2 ^ 62 ≤ c → divided_of a b c ≡ none
+pub large_c : (a b c : ℕ) → 2 ^ 62 ≤ c → divided_of a b c ≡ None
 unfolding divided_of
-large_c a b c h = simp (le-leb (2 ^ 62) c h, unless_none)
+large_c a b c h = grind (arith, nat_tests)
 
 -- past the refusals only the quotient's size is left
 pub in_range : (a b c : ℕ) → 0 < c → a < 2 ^ 62 → b < 2 ^ 62 → c < 2 ^ 62 → divided_of a b c ≡ fitted (a * b / c) (a * b % c)
@@ -47,14 +43,14 @@ in_range a b c pos ha hb hc =
 
 -- 2. introduction: the quotient of numbers that are in range and whose quotient fits
 
-divided_into : (a b c : ℕ) → Scalable a b c → divided_of a b c ≡ given (division (a * b) c)
+pub divided_into : (a b c : ℕ) → Scalable a b c → divided_of a b c ≡ Some (division (a * b) c)
 divided_into a b c s =
     rw (in_range a b c s.divisor s.a_small s.b_small s.c_small, fitted_small (a * b / c) (a * b % c) s.fits)
 
 -- then there is a number
-pub never_none : (a b c : ℕ) → Scalable a b c → divided_of a b c ≡ none → ⊥
+pub never_none : (a b c : ℕ) → Scalable a b c → divided_of a b c ≡ None → ⊥
 never_none a b c s e =
-    let made : divided_of a b c ≡ given (division (a * b) c) = divided_into a b c s in
+    let made : divided_of a b c ≡ Some (division (a * b) c) = divided_into a b c s in
     let z : ◌≡◌ {A = ℕ} 0 1 = cc in
     omega arith
 
@@ -76,10 +72,10 @@ pub record Given (a b c : ℕ) (d : Division) : Type 0 where
   pub scalable : Scalable a b c
   pub value : d ≡ division (a * b) c
 
-apart : {o : Maybe Division} {d : Division} → o ≡ given d → o ≡ none → ⊥
+apart : {o : Option Division} {d : Division} → o ≡ Some d → o ≡ None → ⊥
 apart p n = let z : ◌≡◌ {A = ℕ} 0 1 = cc in omega arith
 
-pub was_given : (a b c : ℕ) (d : Division) → divided_of a b c ≡ given d → Given a b c d
+pub was_given : (a b c : ℕ) (d : Division) → divided_of a b c ≡ Some d → Given a b c d
 was_given a b c d e =
     let some : c ≡ 0 → ⊥ = λ h. apart e (zero_divisor a b c h) in
     let no_a : 2 ^ 62 ≤ a → ⊥ = λ h. apart e (large_a a b c h) in
@@ -88,6 +84,6 @@ was_given a b c d e =
     let sized : divided_of a b c ≡ fitted (a * b / c) (a * b % c) = in_range a b c (omega arith) (omega arith) (omega arith) (omega arith) in
     let no_q : 2 ^ 64 ≤ a * b / c → ⊥ = λ h. apart e (sized ∙ fitted_large (a * b / c) (a * b % c) h) in
     let s : Scalable a b c = omega arith in
-    let made : divided_of a b c ≡ given (division (a * b) c) = divided_into a b c s in
+    let made : divided_of a b c ≡ Some (division (a * b) c) = divided_into a b c s in
     let value : d ≡ division (a * b) c = cc in
     record { scalable = s; value = value }

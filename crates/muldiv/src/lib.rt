@@ -8,53 +8,37 @@
 
 ghost use Rattle.std.specs.Prelude.{◌≡◌, ◌+◌, ◌*◌, ◌/◌, ◌%◌, ◌^◌, ◌<◌, ◌≤◌};
 ghost use Rattle.definitions.specs.Division.{division};
-ghost use Rattle.muldiv.specs.MulDiv.{divided_answer, divided_of, fitted, Scalable, BitCount};
+ghost use Rattle.muldiv.specs.MulDiv.{divided_of, fitted, Scalable, BitCount};
 
 use definitions::Division;
 
 // Each of a, b and c stays below this.
 const LIMIT: u64 = 1 << 62;
 
-// The largest number of 64 bits.
-const LARGEST: u64 = 0xffff_ffff_ffff_ffff;
-
 // 10^6, the root of 10^12.
 const MILLION: u64 = 1_000_000;
 
-// Quotient and remainder, or Nothing where there is no quotient or it does not fit.
-#[derive(Drop)]
-pub enum Divided {
-    Into(Division),
-    Nothing,
-}
-
-// a * b by c. Nothing where c is 0, where a, b or c is 2^62 or more, or where the quotient is 2^64
+// a * b by c. None where c is 0, where a, b or c is 2^62 or more, or where the quotient is 2^64
 // or more, and nowhere else. There is one turn for each bit of b: hand over the smaller factor as b.
-pub fn mul_div(a: u64, b: u64, c: u64) -> Divided
-    ensures { divided_answer result ≡ divided_of a b c }
+pub fn mul_div(a: u64, b: u64, c: u64) -> Option<Division>
+    ensures { result ≡ divided_of a b c }
 {
     if c == 0 {
-        return Divided::Nothing;
+        return None;
     }
     if a >= LIMIT || b >= LIMIT || c >= LIMIT {
-        return Divided::Nothing;
+        return None;
     }
     let low = divide_by_bits(a % c, b, c);
     total(a / c, b, low)
 }
 
-// The same, for a caller who knows that there is a quotient: the Nothing arm is never taken.
+// The same, for a caller who knows that there is a quotient.
 pub fn scaled(a: u64, b: u64, c: u64) -> Division
     requires { Scalable a b c }
     ensures { result ≡ division (a * b) c }
 {
-    match mul_div(a, b, c) {
-        Divided::Into(d) => d,
-        Divided::Nothing => Division {
-            quotient: 0,
-            remainder: 0,
-        },
-    }
+    mul_div(a, b, c).unwrap()
 }
 
 // n by c, for an n of 64 bits.
@@ -91,18 +75,13 @@ pub fn over_trillion(a: u64, b: u64) -> Division
     }
 }
 
-// low with high * b added to its quotient; Nothing where that quotient is 2^64 or more.
-fn total(high: u64, b: u64, low: Division) -> Divided
-    ensures { divided_answer result ≡ fitted (high * b + low.quotient) low.remainder }
+// low with high * b added to its quotient; None where that quotient is 2^64 or more.
+fn total(high: u64, b: u64, low: Division) -> Option<Division>
+    ensures { result ≡ fitted (high * b + low.quotient) low.remainder }
 {
-    if high == 0 {
-        return Divided::Into(low);
-    }
-    if b > (LARGEST - low.quotient) / high {
-        return Divided::Nothing;
-    }
-    Divided::Into(Division {
-        quotient: high * b + low.quotient,
+    let quotient = high.checked_mul(b)?.checked_add(low.quotient)?;
+    Some(Division {
+        quotient,
         remainder: low.remainder,
     })
 }
@@ -117,14 +96,12 @@ fn divide_by_bits(a: u64, b: u64, c: u64) -> Division
     requires { (a < c) × (b < 2 ^ 62) × (c < 2 ^ 62) }
     ensures { result ≡ division (a * b) c }
 {
-    let mut quotient: u64 = 0;
-    let mut remainder: u64 = 0;
-    let mut bits_left = bit_count(b);
-    while bits_left > 0 {
-        bits_left -= 1;
-        let sum = 2 * remainder + a * bit(b, bits_left);
-        quotient = 2 * quotient + how_often(sum, c);
-        remainder = rest(sum, c);
+    let mut quotient = 0;
+    let mut remainder = 0;
+    for k in (0..bit_count(b)).rev() {
+        let next = divide_by_few(2 * remainder + a * bit(b, k), c);
+        quotient = 2 * quotient + next.quotient;
+        remainder = next.remainder;
     }
     Division {
         quotient,
@@ -136,7 +113,7 @@ fn divide_by_bits(a: u64, b: u64, c: u64) -> Division
 fn bit_count(b: u64) -> u32
     ensures { BitCount b result }
 {
-    64 - u64::leading_zeros(b)
+    64 - b.leading_zeros()
 }
 
 // Bit k of b: 1 where it is set, else 0. The lowest is bit 0.
@@ -147,30 +124,25 @@ fn bit(b: u64, k: u32) -> u64
     (b >> k) % 2
 }
 
-// sum / c, for a sum below 3 * c. Comparisons are quicker than a division.
-fn how_often(sum: u64, c: u64) -> u64
+// sum by c, for a sum below 3 * c. Comparisons are quicker than a division.
+fn divide_by_few(sum: u64, c: u64) -> Division
     requires { (sum < 3 * c) × (c < 2 ^ 62) }
-    ensures { (result ≡ sum / c) × (result < 3) }
+    ensures { result ≡ division sum c }
 {
     if sum < c {
-        0
+        Division {
+            quotient: 0,
+            remainder: sum,
+        }
     } else if sum < 2 * c {
-        1
+        Division {
+            quotient: 1,
+            remainder: sum - c,
+        }
     } else {
-        2
-    }
-}
-
-// sum % c, for a sum below 3 * c.
-fn rest(sum: u64, c: u64) -> u64
-    requires { (sum < 3 * c) × (c < 2 ^ 62) }
-    ensures { result ≡ sum % c }
-{
-    if sum < c {
-        sum
-    } else if sum < 2 * c {
-        sum - c
-    } else {
-        sum - 2 * c
+        Division {
+            quotient: 2,
+            remainder: sum - 2 * c,
+        }
     }
 }

@@ -2,7 +2,7 @@
 use mathlib.Core.Path.{◌≡◌}
 use Prim.Native.Nat.{ℕ, ◌-◌, ◌^◌, ◌<◌}
 use native.Mathlib.Omega.{arith}
-use lib.Count.{count_leading_zeros, leading_le, leading_length}
+use lib.Count.{count_leading_zeros, leading_length}
 use Rattle.muldiv.specs.MulDiv.{BitCount}
 use Rattle.muldiv.proofs.bit_count.Goals as goal
 
@@ -15,6 +15,3 @@ counted b n fits is_rest =
 
 pub returns : goal.returns
 returns c = counted c.args.b _ c.ranges.b.fits (omega arith)
-
-pub overflow_sub-result : goal.overflow_sub-result
-overflow_sub-result c = omega (arith, leading_le 64 c.args.b)

@@ -1,9 +1,6 @@
 -- `muldiv::mul_div` meets its contract. Assumes nothing.
-use mathlib.Core.Path.{sym, ap₂, ◌∙◌}
-use mathlib.Core.Logic.{⊎_elim}
-use Prim.Native.Nat.{◌*◌, ◌%◌, ◌<◌}
-use native.Mathlib.Omega.{arith}
-use Rattle.laws.specs.Rounding.{quotient_unique, remainder_unique, remainder_below, divides}
+use Rattle.std.proofs.Common.{◌<◌, ◌%◌, ◌*◌, sym, ap₂, ◌∙◌, ⊎_elim, arith}
+use Rattle.laws.specs.Rounding.{quotient_unique, remainder_unique, divides}
 use Rattle.muldiv.specs.MulDiv.{fitted}
 use Rattle.muldiv.specs.QuotientLaws.{zero_divisor, large_a, large_b, large_c, in_range}
 use Rattle.muldiv.proofs.Arithmetic.{joined}
@@ -11,7 +8,7 @@ use Rattle.muldiv.proofs.mul_div.Goals as goal
 
 -- c is 0
 pub returns-then-c-eq0 : goal.returns-then-c-eq0
-returns-then-c-eq0 c = sym (zero_divisor c.args.a c.args.b c.args.c (omega arith))
+returns-then-c-eq0 c = sym (zero_divisor _ _ _ c.if-c-eq0.true)
 
 -- a, b or c is too large
 pub returns-then-a-ge-LIMIT : goal.returns-then-a-ge-LIMIT
@@ -20,11 +17,6 @@ returns-then-a-ge-LIMIT c =
     ⊎_elim (λ w. sym (large_a args.a args.b args.c (omega arith)))
     (⊎_elim (λ w. sym (large_b args.a args.b args.c (omega arith))) (λ w. sym (large_c args.a args.b args.c (omega arith))))
     c.then-a-ge-LIMIT.either
-
-pub divide_by_bits-low-requires : goal.divide_by_bits-low-requires
-divide_by_bits-low-requires c =
-    let args = c.args in
-    omega (arith, remainder_below args.a args.c (omega arith))
 
 -- a × b is (a / c) × c × b, which holds c (a / c) × b times, and (a % c) × b
 pub returns : goal.returns

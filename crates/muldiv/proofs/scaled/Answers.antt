@@ -1,17 +1,10 @@
--- `muldiv::scaled` meets its contract: what it requires rules the Nothing arm out. Assumes nothing.
-use mathlib.Core.Path.{sym, ◌∙◌, ap}
-use Rattle.muldiv.specs.MulDiv.{divided_answer}
-use Rattle.muldiv.specs.QuotientLaws.{was_given, never_none}
+-- `muldiv::scaled` meets its contract: by what it requires there is a quotient. Assumes nothing.
+use Rattle.std.proofs.Common.{sym, ap, ◌∙◌, is_some}
+use Rattle.muldiv.specs.QuotientLaws.{divided_into, was_given}
 use Rattle.muldiv.proofs.scaled.Goals as goal
 
-pub returns-in-Into : goal.returns-in-Into
-returns-in-Into c =
-    let args = c.args in
-    let call = c.mul_div in
-    (was_given args.a args.b args.c c.in-Into.d (sym call.ensures ∙ ap divided_answer c.in-Into.is)).value
+pub unwrap-requires : goal.unwrap-requires
+unwrap-requires c = ap is_some (c.mul_div.ensures ∙ divided_into _ _ _ c.requires)
 
-pub returns-in-Nothing : goal.returns-in-Nothing
-returns-in-Nothing c =
-    let call = c.mul_div in
-    let args = c.args in
-    absurd (never_none args.a args.b args.c c.requires (sym call.ensures ∙ ap divided_answer c.in-Nothing.is))
+pub returns : goal.returns
+returns c = (was_given c.args.a c.args.b c.args.c c.unwrap.result (sym c.mul_div.ensures ∙ c.unwrap.ensures)).value
