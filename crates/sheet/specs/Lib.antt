@@ -1,2 +1,4 @@
-pub mod Printable
+pub mod Line
+pub mod Shape
+pub mod Shown
 pub mod TextLaws

@@ -1,12 +1,13 @@
 -- Digits, and how long the texts of the sheet are. Assumes nothing.
-use Rattle.std.specs.Prelude.{◌≡◌, Bool, true, false, List, [], ◌∷◌, ℕ, zero, suc, ◌+◌, ◌-◌, ◌/◌, ◌%◌, ◌^◌, ◌≤◌, ◌<◌, ltb, get_or}
+use Rattle.std.specs.Prelude.{◌≡◌, Bool, true, false, List, [], ◌∷◌, ℕ, zero, suc, ◌+◌, ◌-◌, ◌/◌, ◌%◌, ◌^◌, ◌≤◌, ◌<◌, ltb, length, get_or}
 use Rattle.std.proofs.Common.{append_assoc, mul-le-mul, add-one, sub-one, arith, lt-ltb, le-ltb}
 use Rattle.std.proofs.Math.Nat.{pow-le-pow_right}
 use Rattle.std.proofs.Math.Decide.{dec_le, dec_lt}
 use Rattle.definitions.specs.Sums.{pick}
 use Rattle.definitions.specs.Sheet.{digit, digits, places, decimal, label, figure_line}
 use Rattle.laws.specs.Rounding.{remainder_below}
-use Rattle.sheet.specs.Printable.{line, line_width, Shape}
+use Rattle.sheet.specs.Line.{line, line_width}
+use Rattle.sheet.specs.Shape.{Shape}
 
 -- the highest of p digits, and the others
 pub next_digit : (x p : ℕ) → 0 < p → digit x (p - 1) ∷ digits x (p - 1) ≡ digits x p
@@ -61,7 +62,7 @@ unfolding label
 label_start M i h = rw (le-ltb i M h)
 
 -- at most 520 lines
-pub area : {M R block : ℕ} {cells : List ℕ} → Shape M R block cells → block ≤ 520
+pub area : {M R : ℕ} {cells : List ℕ} → Shape M R cells → length cells ≤ 520
 area {M} {R} h =
     let most : M + 1 ≤ 65 = omega (arith, h.states) in
     omega (arith, h.rows, mul-le-mul most h.highest)
@@ -72,7 +73,7 @@ pub record Narrow (R k : ℕ) : Type 0 where
   pub r : k % R < 8
   pub width : line_width (k % R + 1) ≤ 23
 
-pub narrow : {M R block : ℕ} {cells : List ℕ} (k : ℕ) → Shape M R block cells → k < block → Narrow R k
+pub narrow : {M R : ℕ} {cells : List ℕ} (k : ℕ) → Shape M R cells → k < length cells → Narrow R k
 narrow {M} {R} k h l =
     let pos : 0 < R = elim (dec_lt 0 R) [ yes p ↦ p | no n ↦ absurd (let none : R ≡ 0 = omega (arith, n) in omega (arith, l, rw none at h.rows)) ] in
     let m : k % R < 8 = omega (arith, remainder_below k R pos, h.highest) in

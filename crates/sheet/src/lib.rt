@@ -1,17 +1,19 @@
 // The printed sheet, as bytes in a lent buffer.
 //
-// Each writer below stores its text from `at` on, or from the buffer's start, and returns the place
-// after it. Its contract names the text and how long it may be, and says that no other byte changes.
+// The contract of each function that is given a pen names the text that it puts and how long it may be.
 #![tactic(auto)]
 
 ghost use Rattle.std.specs.Prelude.{◌≡◌, [], ◌∷◌, ◌++◌, ◌+◌, ◌*◌, ◌^◌, ◌<◌, ◌≤◌, length};
-ghost use Rattle.definitions.specs.Moment.{answer_of};
-ghost use Rattle.definitions.specs.Sheet.{digit, digits, places, decimal, figure, label, figure_lines, word_line, sheet_of};
+ghost use Rattle.definitions.specs.Sheet.{digit, digits, places, decimal, figure, label, figure_lines, word_line};
 ghost use Rattle.writing.specs.Puts.{Puts};
 ghost use Rattle.writing.specs.Printed.{Printed};
-ghost use Rattle.sheet.specs.Printable.{line, line_width, Shape, Printable};
+ghost use Rattle.sheet.specs.Line.{line, line_width};
+ghost use Rattle.sheet.specs.Shown.{sheet_shown};
 
-use definitions::Outcome;
+mod solved;
+
+pub use solved::Solved;
+use writing::Pen;
 
 // The bytes of a buffer that has room for every sheet.
 pub const ROOM: usize = 16384;
@@ -57,125 +59,101 @@ fn digit_at(x: u64, p: usize) -> u8
 }
 
 // The last p decimal digits of x, the highest first.
-fn put_digits(out: &mut [u8], at: usize, x: u64, p: usize) -> usize
-    requires { (p ≤ 20) × (at + p ≤ length out.old) }
-    ensures { Puts (digits x p) p at out.old out.new result }
+fn put_digits(pen: &mut Pen, x: u64, p: usize)
+    requires { (p ≤ 20) × (pen.old.at + p ≤ length pen.old.out.now) }
+    ensures { Puts (digits x p) p pen.old pen.new }
 {
-    let mut to = at;
-    let mut left = p;
-    while left > 0 {
-        left -= 1;
-        to = writing::put(out, to, digit_at(x, left));
+    for place in (0..p).rev() {
+        pen.put(digit_at(x, place));
     }
-    to
 }
 
 // How many digits x has in decimal: one more than the highest power of ten that is not above it.
 fn places_of(x: u64) -> usize
     ensures { result ≡ places x 19 }
 {
-    let mut p = 19;
-    while p > 0 {
+    for p in (1..20).rev() {
         if x >= power(p) {
             return p + 1;
         }
-        p -= 1;
     }
     1
 }
 
 // x in decimal, and the byte after it.
-fn put_number(out: &mut [u8], at: usize, x: u64, end: u8) -> usize
-    requires { at + places x 19 + 1 ≤ length out.old }
-    ensures { Puts (decimal x ++ end ∷ []) (places x 19 + 1) at out.old out.new result }
+fn put_number(pen: &mut Pen, x: u64, end: u8)
+    requires { pen.old.at + places x 19 + 1 ≤ length pen.old.out.now }
+    ensures { Puts (decimal x ++ end ∷ []) (places x 19 + 1) pen.old pen.new }
 {
-    let to = put_digits(out, at, x, places_of(x));
-    writing::put(out, to, end)
+    put_digits(pen, x, places_of(x));
+    pen.put(end);
 }
 
 // A figure of x ticks: a digit, a point and twelve digits.
-fn put_figure(out: &mut [u8], at: usize, x: u64) -> usize
-    requires { at + 14 ≤ length out.old }
-    ensures { Puts (figure x) 14 at out.old out.new result }
+fn put_figure(pen: &mut Pen, x: u64)
+    requires { pen.old.at + 14 ≤ length pen.old.out.now }
+    ensures { Puts (figure x) 14 pen.old pen.new }
 {
-    let point = writing::put(out, at, digit_at(x, 12));
-    let decimals = writing::put(out, point, b'.');
-    put_digits(out, decimals, x, 12)
+    pen.put(digit_at(x, 12));
+    pen.put(b'.');
+    put_digits(pen, x, 12);
 }
 
 // How the lines of row i begin: the state's number, or past the last state "start". A space follows.
-fn put_label(out: &mut [u8], at: usize, states: usize, i: usize) -> usize
-    requires { (states ≤ 64) × (at + 6 ≤ length out.old) }
-    ensures { Puts (label states i ++ 32 ∷ []) 6 at out.old out.new result }
+fn put_label(pen: &mut Pen, states: usize, i: usize)
+    requires { (states ≤ 64) × (pen.old.at + 6 ≤ length pen.old.out.now) }
+    ensures { Puts (label states i ++ 32 ∷ []) 6 pen.old pen.new }
 {
     if i < states {
-        put_number(out, at, (i + 1) as u64, b' ')
+        put_number(pen, i as u64 + 1, b' ');
     } else {
-        writing::put_word(out, at, b"start ")
+        pen.put_word(b"start ");
     }
 }
 
 // One line, of row i: its label, its r and its ticks.
-fn put_line(out: &mut [u8], at: usize, states: usize, i: usize, r: u64, ticks: u64) -> usize
-    requires { (states ≤ 64) × (at + line_width r ≤ length out.old) }
-    ensures { Puts (line states i r ticks) (line_width r) at out.old out.new result }
+fn put_line(pen: &mut Pen, states: usize, i: usize, r: u64, ticks: u64)
+    requires { (states ≤ 64) × (pen.old.at + line_width r ≤ length pen.old.out.now) }
+    ensures { Puts (line states i r ticks) (line_width r) pen.old pen.new }
 {
-    let second = put_label(out, at, states, i);
-    let third = put_number(out, second, r, b' ');
-    let end = put_figure(out, third, ticks);
-    writing::put(out, end, b'\n')
+    put_label(pen, states, i);
+    put_number(pen, r, b' ');
+    put_figure(pen, ticks);
+    pen.put(b'\n');
 }
 
-// The line of every cell of the block, of at most 23 bytes each.
-fn put_lines(
-    out: &mut [u8],
-    at: usize,
-    states: usize,
-    highest: usize,
-    block: usize,
-    cells: &[u64],
-) -> usize
-    requires { Shape states highest block cells.now × (at + block * 23 ≤ length out.old) }
-    ensures { Puts (figure_lines states highest block cells.now) (block * 23) at out.old out.new result }
+// The line of every cell, of at most 23 bytes each.
+fn put_lines(pen: &mut Pen, solved: &Solved)
+    requires { pen.old.at + length solved.now.cells.now * 23 ≤ length pen.old.out.now }
+    ensures { Puts (figure_lines solved.now.states solved.now.highest (length solved.now.cells.now) solved.now.cells.now) (length solved.now.cells.now * 23) pen.old pen.new }
 {
-    let mut to = at;
-    let mut k = 0;
-    while k < block {
-        let i = k / highest;
-        let r = (k % highest + 1) as u64;
-        to = put_line(out, to, states, i, r, cells[k]);
-        k += 1;
+    for (k, &ticks) in solved.cells.iter().enumerate() {
+        let r = (k % solved.highest + 1) as u64;
+        put_line(pen, solved.states, k / solved.highest, r, ticks);
     }
-    to
 }
 
-// A word, a number and the line's end, from the buffer's start.
-fn put_word_line(out: &mut [u8], word: &[u8], n: u64) -> usize
-    requires { length word.now + (places n 19 + 1) ≤ length out.old }
-    ensures { Puts (word_line word.now n) (length word.now + (places n 19 + 1)) 0 out.old out.new result }
+// A word, a number and the line's end.
+fn put_word_line(pen: &mut Pen, word: &[u8], n: u64)
+    requires { pen.old.at + (length word.now + (places n 19 + 1)) ≤ length pen.old.out.now }
+    ensures { Puts (word_line word.now n) (length word.now + (places n 19 + 1)) pen.old pen.new }
 {
-    let number = writing::put_word(out, 0, word);
-    put_number(out, number, n, b'\n')
+    pen.put_word(word);
+    put_number(pen, n, b'\n');
 }
 
-// Writes the sheet of an outcome at the buffer's start and returns its length. Later bytes stay as
-// they were. Only a level asks something of states, highest, block and cells.
-pub fn write_sheet(
-    outcome: Outcome,
-    states: usize,
-    highest: usize,
-    block: usize,
-    cells: &[u64],
-    out: &mut [u8; ROOM],
-) -> usize
-    requires { Printable (answer_of outcome) states highest block cells.now }
-    ensures { Printed (sheet_of (answer_of outcome) states highest block cells.now) out.old out.new result }
+// Writes the sheet of a run, or of the number of a refusal, at the buffer's start and returns its length. Later bytes stay
+// as they were.
+pub fn write_sheet(outcome: Result<Solved, u8>, out: &mut [u8; ROOM]) -> usize
+    ensures { Printed (sheet_shown outcome.entry) out.old out.new result }
 {
+    let mut pen = Pen { out, at: 0 };
     match outcome {
-        Outcome::Solved(run) => {
-            let lines = put_word_line(out, b"level ", run.level);
-            put_lines(out, lines, states, highest, block, cells)
+        Ok(solved) => {
+            put_word_line(&mut pen, b"level ", solved.run.level);
+            put_lines(&mut pen, &solved);
         }
-        Outcome::Refused(rule) => put_word_line(out, b"refused ", rule as u64),
+        Err(row) => put_word_line(&mut pen, b"refused ", u64::from(row)),
     }
+    pen.at
 }

@@ -1,39 +1,40 @@
--- `sheet::put_digits` meets its contract: storing the digits that are left gives the whole. Assumes nothing.
-use mathlib.Core.Path.{◌≡◌, refl, sym, ap, ◌∙◌}
-use mathlib.Core.List.{List, ◌∷◌}
-use Prim.Native.Nat.{ℕ, ◌-◌}
-use native.Mathlib.Omega.{arith}
-use lib.Seq.{sets}
+-- `put_digits` meets its contract. Assumes nothing.
+use Rattle.std.proofs.Common.{◌≡◌, List, ◌∷◌, ℕ, ◌-◌, sym, ap, ◌∙◌, arith}
+use Rattle.std.proofs.lemmas.List.Edits.{sets}
 use Rattle.definitions.specs.Sheet.{digits}
 use Rattle.writing.specs.Puts.{first_byte}
 use Rattle.laws.specs.SheetLaws.{length_digits}
 use Rattle.sheet.specs.TextLaws.{next_digit}
 use Rattle.sheet.proofs.put_digits.Goals as goal
 
-pub loop-left-init : goal.loop-left-init
-loop-left-init c = (omega arith, omega arith, refl, refl)
-
-pub loop-left-preserved : goal.loop-left-preserved
-loop-left-preserved c =
-    let loop = c.loop-left in
-    let x = c.args.x in (
-      omega (arith, c.put-to.ensures.after),
-      omega (arith, c.put-to.ensures.after),
-      omega (arith, c.put-to.auto),
-      first_byte c.put-to.ensures (digits x (loop.left - 1))
-          ∙ ap (λ (b : ℕ). sets loop.out loop.to (b ∷ digits x (loop.left - 1))) c.digit_at.ensures
-          ∙ ap (λ (t : List ℕ). sets loop.out loop.to t) (next_digit x loop.left (omega arith))
-          ∙ loop.invariant.3,
-    )
+pub loop-place-preserved : goal.loop-place-preserved
+loop-place-preserved c =
+    let loop = c.loop-place in
+    let out : List ℕ = loop.pen.out.now in
+    let x = c.args.x in
+    let place : ℕ = loop.place - 1 in
+    let put = c.put.ensures in
+    record {
+      at = omega (arith, put.after);
+      left =
+          first_byte put (digits x place)
+          ∙ ap (λ (b : ℕ). sets out loop.pen.at (b ∷ digits x place)) c.digit_at.ensures
+          ∙ ap (λ (t : List ℕ). sets out loop.pen.at t) (next_digit x loop.place (omega arith))
+          ∙ loop.invariant.left;
+      room = put.room ∙ loop.invariant.room;
+      same_buffer = put.same_buffer ∙ loop.invariant.same_buffer;
+    }
 
 pub returns : goal.returns
 unfolding digits
 returns c =
-    let loop = c.loop-left in
+    let loop = c.loop-place in
     let args = c.args in
-    let none : loop.left ≡ 0 = omega arith in
+    let none : loop.place ≡ 0 = omega arith in
     record {
       after = omega (arith, length_digits args.x args.p);
       within = omega arith;
-      bytes = ap (λ (n : ℕ). sets loop.out loop.to (digits args.x n)) (sym none) ∙ loop.invariant.3;
+      bytes = ap (λ (n : ℕ). sets loop.pen.out.now loop.pen.at (digits args.x n)) (sym none) ∙ loop.invariant.left;
+      room = loop.invariant.room;
+      same_buffer = loop.invariant.same_buffer;
     }

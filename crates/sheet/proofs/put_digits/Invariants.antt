@@ -1,12 +1,13 @@
-use mathlib.Core.Path.{◌≡◌}
-use Prim.Native.Nat.{◌+◌, ◌≤◌}
-use lib.ListN.{length}
-use lib.Seq.{sets}
+use Rattle.std.proofs.Common.{◌≡◌, ◌+◌, length}
+use Rattle.std.proofs.lemmas.List.Edits.{sets}
 use Rattle.definitions.specs.Sheet.{digits}
 use Rattle.sheet.proofs.put_digits.Given as goal
 
-abbrev pub invariant-loop-left : goal.invariant-loop-left
-invariant-loop-left l = (l.left ≤ l.p) × (l.to + l.left ≡ l.at + l.p) × (length l.out ≡ length l.initial.out) × (sets l.out l.to (digits l.x l.left) ≡ sets l.initial.out l.at (digits l.x l.p))
-
-abbrev pub decreases-loop-left : goal.decreases-loop-left
-decreases-loop-left l = l.left
+-- to put the digits that are left is to put all of them
+abbrev pub invariant-loop-place : goal.invariant-loop-place
+invariant-loop-place l = record {
+  at : l.pen.at + l.place ≡ l.initial.pen.at + l.p;
+  left : sets l.pen.out.now l.pen.at (digits l.x l.place) ≡ sets l.initial.pen.out.now l.initial.pen.at (digits l.x l.p);
+  room : length l.pen.out.now ≡ length l.initial.pen.out.now;
+  same_buffer : l.pen.out.ghost_name ≡ l.initial.pen.out.ghost_name;
+}

@@ -8,4 +8,4 @@ pub returns : goal.returns
 unfolding figure
 returns c =
     let units : c.digit_at.result ≡ digit c.args.x 12 = c.digit_at.ensures in
-    rw (← units) (then (then c.put-point.ensures c.put-decimals.ensures) c.put_digits.ensures)
+    rw (← units) (then (then c.put.ensures c.put-2.ensures) c.put_digits.ensures)

@@ -3,4 +3,4 @@ use Rattle.writing.specs.Puts.{then}
 use Rattle.sheet.proofs.put_line.Goals as goal
 
 pub returns : goal.returns
-returns c = then (then (then c.put_label-second.ensures c.put_number-third.ensures) c.put_figure-end.ensures) c.put.ensures
+returns c = then (then (then c.put_label.ensures c.put_number.ensures) c.put_figure.ensures) c.put.ensures

@@ -5,10 +5,10 @@ use Rattle.writing.specs.Puts.{then}
 use Rattle.sheet.specs.TextLaws.{places_limit}
 use Rattle.sheet.proofs.put_number.Goals as goal
 
-pub put_digits-to-requires : goal.put_digits-to-requires
+pub put_digits-requires : goal.put_digits-requires
 unfolding decimal
-put_digits-to-requires c = omega (arith, places_limit c.args.x 19)
+put_digits-requires c = omega (arith, places_limit c.args.x 19)
 
 pub returns : goal.returns
 unfolding decimal
-returns c = rw (← c.places_of.ensures) (then c.put_digits-to.ensures c.put.ensures)
+returns c = rw (← c.places_of.ensures) (then c.put_digits.ensures c.put.ensures)

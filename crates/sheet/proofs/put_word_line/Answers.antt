@@ -3,4 +3,4 @@ use Rattle.writing.specs.Puts.{then}
 use Rattle.sheet.proofs.put_word_line.Goals as goal
 
 pub returns : goal.returns
-returns c = then c.put_word-number.ensures c.put_number.ensures
+returns c = then c.put_word.ensures c.put_number.ensures
