@@ -1,5 +1,5 @@
 -- The search for the level, over plain numbers: one test of n, and what its answer tells. Assumes nothing.
-use mathlib.Core.Path.{◌≡◌, refl}
+use mathlib.Core.Path.{◌≡◌, refl, ap₂, ◌∙◌}
 use mathlib.Core.Bool.{true, false}
 use Prim.Native.Nat.{ℕ, ◌+◌, ◌*◌, ◌-◌, ◌/◌, ◌≤◌, ◌<◌}
 use native.Mathlib.Omega.{arith}
@@ -13,6 +13,7 @@ use Rattle.laws.specs.Rounding.{quotient_at_most}
 use Rattle.laws.specs.LevelLaws.{LEVELS, passes_true, true_passes, level_is}
 use Rattle.muldiv.specs.MulDiv.{Scalable}
 use Rattle.muldiv.specs.QuotientLaws.{scalable_by}
+use Rattle.poisson.specs.declared.Jumps.{Jumps}
 
 -- below q no n passes
 pub too_early : (X ε n : ℕ) → n * MILLION < X → passes? X ε n ≡ false
@@ -60,3 +61,7 @@ module _ (X ε n : ℕ) (jumps_max : X ≤ 256000000) (tolerance_pos : 1 ≤ ε)
   -- an n that passes is the level
   pub this_one : passes? X ε n ≡ true → n ≡ level X ε
   this_one e = omega (arith, (level_is X ε jumps_max tolerance_pos).least n (passes_true X ε n e))
+
+-- the weight of a number of jumps, by the expected count and the number that they equal
+pub weight_at : (at : Jumps) (x n : ℕ) → at.x ≡ x → at.n ≡ n → at.w ≡ weight x n
+weight_at at x n p q = at.weighed ∙ ap₂ weight p q

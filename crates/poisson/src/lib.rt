@@ -32,6 +32,15 @@ pub struct Truncation {
     pub sum: u64,
 }
 
+// A number n of jumps and its weight w(n), where x millionths of a jump are expected.
+#[derive(Clone, Copy)]
+struct Jumps {
+    x: u64,
+    n: u64,
+    w: u64,
+    ghost weighed: { w ≡ weight x n },
+}
+
 // The level N, which is the least n that passes, and S(N). w(0) to w(N) are written into what is lent;
 // the entries past N stay. Left of m all weights are needed; right of it, each is computed when the
 // search comes to it. No n below m passes, and 2m + 51 does: the search is from m to there at most.
@@ -40,17 +49,15 @@ pub fn truncate(x: u64, tolerance: u64, weights: &mut [u64]) -> Truncation
     ensures { Truncated x tolerance result.level result.sum weights.old weights.new }
 {
     let mut sum = leftward(x, weights);
-    let mut w = GREATEST;
-    let mut n = mode_of(x);
+    let mut at = Jumps::most_likely(x);
     loop {
-        let next = n + 1;
-        if passes(w, sum, x, n, tolerance) {
-            return Truncation { level: n, sum };
+        if at.passes(sum, tolerance) {
+            return Truncation { level: at.n, sum };
         }
-        w = step_right(w, x, n);
-        weights[next as usize] = w;
-        sum += w;
-        n = next;
+        let next = at.step_right();
+        weights[next.n as usize] = next.w;
+        sum += next.w;
+        at = next;
     }
 }
 
@@ -59,15 +66,14 @@ fn leftward(x: u64, weights: &mut [u64]) -> u64
     requires { (x ≤ 256000000) × (mode x < length weights.old) }
     ensures { (result ≡ weight_sum x (mode x)) × (weights.new ≡ over (mode x + 1) (weight x) weights.old) }
 {
-    let mut n = mode_of(x) as usize;
-    let mut w = GREATEST;
-    let mut sum = GREATEST;
-    weights[n] = GREATEST;
-    while n > 0 {
-        w = step_left(w, x, n as u64);
-        n -= 1;
-        weights[n] = w;
-        sum += w;
+    let mut at = Jumps::most_likely(x);
+    let m = at.n as usize;
+    let mut sum = at.w;
+    weights[m] = at.w;
+    for n in (0..m).rev() {
+        at = at.step_left();
+        weights[n] = at.w;
+        sum += at.w;
     }
     sum
 }
@@ -79,35 +85,6 @@ fn mode_of(x: u64) -> u64
     x / MILLION
 }
 
-// w(n + 1), given w(n), for n from m on. The remainder of w(n) * X by (n + 1) * 1,000,000 is dropped.
-fn step_right(w: u64, x: u64, n: u64) -> u64
-    requires { (w ≡ weight x n) × (mode x ≤ n) × (n + 1 < LEVELS) }
-    ensures { (result ≡ weight x (n + 1)) × Divides (w * x) ((n + 1) * MILLION) result (w * x % ((n + 1) * MILLION)) }
-{
-    let next = muldiv::scaled(w, x, (n + 1) * MILLION);
-    next.quotient
-}
-
-// w(n - 1), given w(n), for n up to m. The remainder of w(n) * n * 1,000,000 by X is dropped.
-fn step_left(w: u64, x: u64, n: u64) -> u64
-    requires { (w ≡ weight x n) × (1 ≤ n) × (n ≤ mode x) × (x ≤ 256000000) }
-    ensures { (result ≡ weight x (n - 1)) × Divides (w * n * MILLION) x result (w * n * MILLION % x) }
-{
-    let before = muldiv::scaled(w, n * MILLION, x);
-    before.quotient
-}
-
-// t, the bound on the weights past n, given w(n), for n not below q. The remainder of (w(n) + n - m) * X by
-// (n + 1) * 1,000,000 - X is dropped. Below q that divisor could be 0.
-fn tail_bound(w: u64, x: u64, n: u64) -> u64
-    requires { (w ≡ weight x n) × (x ≤ n * MILLION) × (n < LEVELS) × (x ≤ 256000000) }
-    ensures { (result ≡ tail_bound x n) × Divides ((w + n - mode x) * x) ((n + 1) * MILLION - x) (result - 1) ((w + n - mode x) * x % ((n + 1) * MILLION - x)) }
-{
-    let m = mode_of(x);
-    let past = muldiv::scaled(w + n - m, x, (n + 1) * MILLION - x);
-    1 + past.quotient
-}
-
 // The most that t may be, given S(n): S(n) * tolerance by 10^9. The remainder is dropped.
 fn allowance(sum: u64, tolerance: u64) -> u64
     requires { (sum < 2 ^ 62) × (tolerance ≤ 100000000) }
@@ -117,14 +94,65 @@ fn allowance(sum: u64, tolerance: u64) -> u64
     allowed.quotient
 }
 
-// Whether n passes, given w(n) and S(n): n jumps are at least q, and t is at most what S(n) and the tolerance allow.
-fn passes(w: u64, sum: u64, x: u64, n: u64, tolerance: u64) -> bool
-    requires { (w ≡ weight x n) × (sum ≡ weight_sum x n) × (n < LEVELS) × (x ≤ 256000000) × (tolerance ≤ 100000000) }
-    ensures { result ≡ passes? x tolerance n }
-{
-    if n * MILLION < x {
-        return false;
+impl Jumps {
+    // m, where the weights start.
+    fn most_likely(x: u64) -> Jumps
+        ensures { (result.x ≡ x) × (result.n ≡ mode x) }
+    {
+        Jumps {
+            x,
+            n: mode_of(x),
+            w: GREATEST,
+        }
     }
-    let t = tail_bound(w, x, n);
-    t <= allowance(sum, tolerance)
+
+    // n + 1, for n from m on. The remainder of w(n) * X by (n + 1) * 1,000,000 is dropped.
+    fn step_right(self) -> Jumps
+        requires { (mode self.x ≤ self.n) × (self.n + 1 < LEVELS) }
+        ensures { (result.x ≡ self.x) × (result.n ≡ self.n + 1) × Divides (self.w * self.x) ((self.n + 1) * MILLION) result.w (self.w * self.x % ((self.n + 1) * MILLION)) }
+    {
+        let n = self.n + 1;
+        let next = muldiv::scaled(self.w, self.x, n * MILLION);
+        Jumps {
+            x: self.x,
+            n,
+            w: next.quotient,
+        }
+    }
+
+    // n - 1, for n up to m. The remainder of w(n) * n * 1,000,000 by X is dropped.
+    fn step_left(self) -> Jumps
+        requires { (1 ≤ self.n) × (self.n ≤ mode self.x) × (self.x ≤ 256000000) }
+        ensures { (result.x ≡ self.x) × (result.n ≡ self.n - 1) × Divides (self.w * self.n * MILLION) self.x result.w (self.w * self.n * MILLION % self.x) }
+    {
+        let before = muldiv::scaled(self.w, self.n * MILLION, self.x);
+        Jumps {
+            x: self.x,
+            n: self.n - 1,
+            w: before.quotient,
+        }
+    }
+
+    // t, the bound on the weights past n, for n not below q. The remainder of (w(n) + n - m) * X by
+    // (n + 1) * 1,000,000 - X is dropped. Below q that divisor could be 0.
+    fn tail_bound(self) -> u64
+        requires { (self.x ≤ self.n * MILLION) × (self.n < LEVELS) × (self.x ≤ 256000000) }
+        ensures { (result ≡ tail_bound self.x self.n) × Divides ((self.w + self.n - mode self.x) * self.x) ((self.n + 1) * MILLION - self.x) (result - 1) ((self.w + self.n - mode self.x) * self.x % ((self.n + 1) * MILLION - self.x)) }
+    {
+        let m = mode_of(self.x);
+        let past = muldiv::scaled(self.w + self.n - m, self.x, (self.n + 1) * MILLION - self.x);
+        1 + past.quotient
+    }
+
+    // Whether n passes, given S(n): n jumps are at least q, and t is at most what S(n) and the tolerance allow.
+    fn passes(self, sum: u64, tolerance: u64) -> bool
+        requires { (sum ≡ weight_sum self.x self.n) × (self.n < LEVELS) × (self.x ≤ 256000000) × (tolerance ≤ 100000000) }
+        ensures { result ≡ passes? self.x tolerance self.n }
+    {
+        if self.n * MILLION < self.x {
+            return false;
+        }
+        let t = self.tail_bound();
+        t <= allowance(sum, tolerance)
+    }
 }

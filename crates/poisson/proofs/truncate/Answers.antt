@@ -1,116 +1,91 @@
 -- `poisson::truncate` meets its contract. Assumes nothing.
--- The loop's invariant: n is from m to the level, w is w(n), the sum is S(n), and the array is filled up to n. The measure is what is
--- left up to the level.
-use mathlib.Core.Path.{◌≡◌, refl, ap, sym, ◌∙◌}
-use Prim.Native.Nat.{ℕ, ◌+◌, ◌≤◌, ◌<◌}
-use native.Mathlib.Omega.{arith}
-use lib.ListN.{length, length-set}
+-- The loop's invariant: n is from m to the level, the sum is S(n), and the array is filled up to n. The measure is what is left up to the level.
+use Rattle.std.proofs.Common.{◌≡◌, ◌+◌, ◌≤◌, ◌<◌, ap, sym, ◌∙◌, arith}
 use Rattle.definitions.specs.Sums.{over}
-use Rattle.definitions.specs.Weights.{mode, weight, weight_sum}
-use Rattle.definitions.specs.Level.{level}
-use Rattle.laws.specs.WeightLaws.{mode_low, weight_mode, weight_max, weight_sum_max, weight_sum_next}
+use Rattle.definitions.specs.Weights.{weight, weight_sum}
+use Rattle.definitions.specs.Level.{level, passes?}
+use Rattle.laws.specs.WeightLaws.{mode_low, weight_max, weight_sum_max, weight_sum_next}
 use Rattle.laws.specs.LevelLaws.{LEVELS, level_mode}
 use Rattle.laws.proofs.LevelLaws.{level_max}
-use Rattle.laws.specs.ListLaws.{over_store, over_again}
-use Rattle.poisson.proofs.Search.{not_yet, this_one}
+use Rattle.laws.specs.ListLaws.{over_store}
+use Rattle.poisson.proofs.Search.{weight_at, not_yet, this_one}
 use Rattle.poisson.proofs.truncate.Goals as goal
-use Rattle.poisson.proofs.truncate.Goals.{After-leftward-sum, Else-passes, Start}
-
--- the level is an index of the array
-last : (c : Start) → level c.args.x c.args.tolerance < LEVELS
-last c = level_max c.args.x c.args.tolerance c.requires.0 c.requires.1
-
--- from the weights left of m back to the start
-abbrev begin : After-leftward-sum → Start
-begin c = (goal.at.After-leftward-sum c).Start
-
--- what is lent has an entry for each level
-room : (c : After-leftward-sum) → LEVELS ≤ length (begin c).args.weights.now
-room c = (begin c).requires.3
+use Rattle.poisson.proofs.truncate.Goals.{After-passes, Else-passes}
 
 pub leftward-sum-requires : goal.leftward-sum-requires
 leftward-sum-requires c = omega (arith, mode_low c.args.x)
 
-pub loop-x-init : goal.loop-x-init
-loop-x-init c =
-    let start = begin (goal.at.loop-x-init c).After-leftward-sum in
-    let x = start.args.x in
-    let is_mode = c.mode_of-n.ensures in
+pub loop-at-init : goal.loop-at-init
+loop-at-init c =
+    let x = c.args.x in
+    let m = c.most_likely-at.ensures.1 in
     let left = c.leftward-sum.ensures in
-    let w = c.leftward-sum.new.weights in (
-      omega arith,
-      omega (arith, level_mode x start.args.tolerance (omega arith) (omega arith)),
-      omega (arith, weight_mode x, ap (weight x) is_mode),
-      omega (arith, left.0, ap (weight_sum x) is_mode),
-      rw is_mode (left.1 ∙ sym (over_again 0 (mode x + 1) (mode x + 1) (weight x) (weight x) start.args.weights.now w (omega arith) (omega (arith, room (goal.at.loop-x-init c).After-leftward-sum, mode_low x)) left.1)),
-      refl,
-    )
+    record {
+      same_jumps = omega arith;
+      from_mode = omega arith;
+      to_level = omega (arith, level_mode x c.args.tolerance (omega arith) (omega arith));
+      summed = left.0 ∙ ap (weight_sum x) (sym m);
+      written = left.1 ∙ ap (λ k. over (k + 1) (weight x) c.args.weights.now) (sym m);
+    }
 
 pub passes-requires : goal.passes-requires
 passes-requires c =
-    let most = last (begin (goal.at.passes-requires c).After-leftward-sum) in
-    (omega arith, omega arith, omega arith, omega arith, omega arith)
+    let most = level_max c.args.x c.args.tolerance c.requires.0 c.requires.1 in
+    let same = c.loop-at.invariant.same_jumps in
+    (c.loop-at.invariant.summed ∙ ap (λ x. weight_sum x c.loop-at.at.n) (sym same), omega arith, omega arith, omega arith)
+
+-- the test is that of X and the tolerance
+tested : (c : After-passes) → c.passes.result ≡ passes? c.args.x c.args.tolerance c.loop-at.at.n
+tested c = c.passes.ensures ∙ ap (λ x. passes? x c.args.tolerance c.loop-at.at.n) c.loop-at.invariant.same_jumps
 
 pub returns-then-passes : goal.returns-then-passes
 returns-then-passes c =
-    let loop = c.loop-x in
-    let start = begin (goal.at.returns-then-passes c).After-leftward-sum in
-    let x = start.args.x in
-    let ε = start.args.tolerance in
-    let found : loop.n ≡ level x ε = this_one x ε loop.n (omega arith) (omega arith) loop.invariant.1 (sym c.passes.ensures ∙ c.if-passes.true) in
+    let loop = c.loop-at in
+    let x = c.args.x in
+    let found : loop.at.n ≡ level x c.args.tolerance = this_one x c.args.tolerance loop.at.n (omega arith) (omega arith) loop.invariant.to_level (sym (tested c.before) ∙ c.if-passes.true) in
     record {
       is_level = omega arith;
-      is_sum = omega (arith, ap (weight_sum x) found);
-      weights =
-          loop.invariant.4
-          ∙ over_again 0 (mode x + 1) (loop.n + 1) (weight x) (weight x) start.args.weights.now _ (omega arith) (omega (arith, last start, room (goal.at.returns-then-passes c).After-leftward-sum)) c.leftward-sum.ensures.1
-          ∙ ap (λ (k : ℕ). over (k + 1) (weight x) start.args.weights.now) found;
+      is_sum = loop.invariant.summed ∙ ap (weight_sum x) found;
+      weights = loop.invariant.written ∙ ap (λ k. over (k + 1) (weight x) c.args.weights.now) found;
     }
 
 -- where the test fails the level is still ahead
-ahead : (c : Else-passes) → let start = begin (goal.at.Else-passes c).After-leftward-sum in c.loop-x.n + 1 ≤ level start.args.x start.args.tolerance
-ahead c =
-    let loop = c.loop-x in
-    let start = begin (goal.at.Else-passes c).After-leftward-sum in
-    not_yet start.args.x start.args.tolerance loop.n (omega arith) (omega arith) loop.invariant.1
-    (sym c.passes.ensures ∙ c.if-passes.false)
+ahead : (c : Else-passes) → c.loop-at.at.n + 1 ≤ level c.args.x c.args.tolerance
+ahead c = not_yet c.args.x c.args.tolerance c.loop-at.at.n (omega arith) (omega arith) c.loop-at.invariant.to_level (sym (tested c.before) ∙ c.if-passes.false)
 
 -- and its index is one of the array's
-inside : (c : Else-passes) → c.loop-x.n + 1 < LEVELS
-inside c = omega (arith, ahead c, last (begin (goal.at.Else-passes c).After-leftward-sum))
+inside : (c : Else-passes) → c.loop-at.at.n + 1 < LEVELS
+inside c = omega (arith, ahead c, level_max c.args.x c.args.tolerance c.requires.0 c.requires.1)
 
-pub overflow_add-sum : goal.overflow_add-sum
-overflow_add-sum c =
-    let x = (begin (goal.at.overflow_add-sum c).After-leftward-sum).args.x in
-    let n = c.loop-x.n in
-    omega (arith, weight_max x (n + 1), weight_sum_max x n, inside (goal.at.overflow_add-sum c).Else-passes)
-
-pub loop-x-preserved : goal.loop-x-preserved
-loop-x-preserved c =
-    let x = (begin (goal.at.loop-x-preserved c).After-leftward-sum).args.x in
-    let loop = c.loop-x in (
-      omega arith,
-      ahead (goal.at.loop-x-preserved c).Else-passes,
-      c.step_right-w.ensures.0,
-      omega (arith, weight_sum_next x loop.n),
-      over_store (loop.n + 1) (weight x) c.leftward-sum.new.weights loop.weights c.step_right-w.result (omega (arith, room (goal.at.loop-x-preserved c).After-leftward-sum, inside (goal.at.loop-x-preserved c).Else-passes, c.leftward-sum.auto)) loop.invariant.4 c.step_right-w.ensures.0,
-      simp length-set loop.invariant.5,
-    )
-
-pub overflow_add-next : goal.overflow_add-next
-overflow_add-next c = omega (arith, last (begin (goal.at.overflow_add-next c).After-leftward-sum))
-
-pub shape_of-weights-then-passes : goal.shape_of-weights-then-passes
-shape_of-weights-then-passes c = c.loop-x.invariant.5 ∙ c.leftward-sum.auto.weights
-
-pub step_right-w-requires : goal.step_right-w-requires
-step_right-w-requires c = (c.loop-x.invariant.2, omega arith, inside c)
+pub step_right-next-requires : goal.step_right-next-requires
+step_right-next-requires c = (rw c.loop-at.invariant.same_jumps c.loop-at.invariant.from_mode, inside c)
 
 pub offset_bounds-weights-next : goal.offset_bounds-weights-next
 offset_bounds-weights-next c = omega (arith, inside (goal.at.offset_bounds-weights-next c).Else-passes)
 
 pub bounds-weights-next : goal.bounds-weights-next
-bounds-weights-next c = omega (arith, inside (goal.at.bounds-weights-next c).Else-passes, room (goal.at.bounds-weights-next c).After-leftward-sum, c.loop-x.invariant.5, c.leftward-sum.auto)
+bounds-weights-next c = omega (arith, inside (goal.at.bounds-weights-next c).Else-passes)
 
-pub loop-x-smaller : goal.loop-x-smaller
-loop-x-smaller c = omega (arith, ahead (goal.at.loop-x-smaller c).Else-passes)
+pub overflow_add-sum : goal.overflow_add-sum
+overflow_add-sum c =
+    let next = c.step_right-next.result in
+    omega (arith, weight_max next.x next.n, weight_sum_max c.args.x c.loop-at.at.n, inside (goal.at.overflow_add-sum c).Else-passes)
+
+pub loop-at-smaller : goal.loop-at-smaller
+loop-at-smaller c = omega (arith, ahead (goal.at.loop-at-smaller c).Else-passes)
+
+pub loop-at-preserved : goal.loop-at-preserved
+loop-at-preserved c =
+    let x = c.args.x in
+    let loop = c.loop-at in
+    let next = c.step_right-next.result in
+    let here : next.n ≡ loop.at.n + 1 = omega arith in
+    let w = weight_at next x (loop.at.n + 1) (omega arith) here in
+    let most = inside (goal.at.loop-at-preserved c).Else-passes in
+    record {
+      same_jumps = omega arith;
+      from_mode = omega arith;
+      to_level = omega (arith, ahead (goal.at.loop-at-preserved c).Else-passes);
+      summed = rw here (omega (arith, weight_sum_next x loop.at.n));
+      written = rw here (over_store (loop.at.n + 1) (weight x) c.args.weights.now loop.weights next.w (omega arith) loop.invariant.written w);
+    }
