@@ -57,8 +57,7 @@ pub record MixReady (n r v w : ℕ) : Type 0 where
   pub share_max : w ≤ ONE
 
 -- what a step is handed: U(n−1,r) as before and U(n,r−1) as same
-pub record StepReady (z : Sizes) (a : Listing) (f : List ℕ) (n r : ℕ) (before same : List ℕ) : Type 0 where
-  pub ready : Ready z a f
+pub record StepReady (M n r : ℕ) (before same : List ℕ) : Type 0 where
   pub indices : Indices n r
-  pub before_ticks : Ticks z.states before
-  pub same_ticks : Ticks z.states same
+  pub before_ticks : Ticks M before
+  pub same_ticks : Ticks M same

@@ -16,34 +16,21 @@ ghost use Rattle.vectors.specs.Divisions.{InOrder, StepDrops, SharesDrop};
 
 use definitions::{Division, ONE, Sizes};
 
-fn wide(x: u32) -> u64
-    ensures { result ≡ x }
-{
-    x as u64
+// The rows of a chain, as they are lent.
+#[derive(Clone, Copy)]
+pub struct Rows<'a> {
+    pub sizes: Sizes,
+    pub targets: &'a [u8],
+    pub rates: &'a [u32],
+    pub counts: &'a [usize; 64],
 }
 
-// V: the sum over j of c(i,j) * v(j), by E. It reads no reward. Of a model whose rows the places hold, it adds the states with a
-// rate above 0 and the diagonal, from the highest to the lowest.
-pub fn row_mean(
-    sizes: Sizes,
-    targets: &[u8],
-    rates: &[u32],
-    counts: &[usize; 64],
-    v: &[u64; 64],
-    i: usize,
-) -> Division
-    requires { RowReady sizes (listed targets.now rates.now counts.now) v.now i }
-    ensures mean { (f : List ℕ) → result ≡ division (row_total (arrays sizes (listed targets.now rates.now counts.now) f) (entry_of v.now) i) sizes.rate }
-    ensures order { InOrder sizes (listed targets.now rates.now counts.now) v.now i result }
-{
-    let first = i * sizes.states;
-    let count = counts[i];
-    let mut total = 0;
-    for k in 0..count {
-        let j = targets[first + k] as usize;
-        total += wide(rates[first + k]) * v[j];
-    }
-    muldiv::divide(total, sizes.rate)
+// A chain that stands in arrays, within its limits.
+#[derive(Clone, Copy)]
+pub struct LentChain<'a> {
+    pub rows: Rows<'a>,
+    pub rewards: &'a [u64; 64],
+    pub ghost ready: { Ready rows.sizes (listed rows.targets.now rows.rates.now rows.counts.now) rewards.now },
 }
 
 // W: f(i) * x by F.
@@ -62,35 +49,27 @@ pub fn mix(n: u64, r: u64, v: u64, w: u64) -> Division
     muldiv::divide(n * v + r * w, n + r)
 }
 
-// U(n,r) of U(n-1,r), before, and U(n,r-1), same: at the states, and 0 past them. The remainders of V by E, of W by F and of U by
-// n + r are dropped. Each row mean adds one to the count of those taken.
-pub fn step(
-    sizes: Sizes,
-    targets: &[u8],
-    rates: &[u32],
-    counts: &[usize; 64],
-    rewards: &[u64; 64],
-    n: u64,
-    r: u64,
-    before: [u64; 64],
-    same: [u64; 64],
-    taken: &mut u64,
-) -> [u64; 64]
-    requires { StepReady sizes (listed targets.now rates.now counts.now) rewards.now n r before same × (taken.old + sizes.states < 2 ^ 64) }
-    ensures vector { result ≡ padded sizes.states (next_entry (arrays sizes (listed targets.now rates.now counts.now) rewards.now) n r (entry_of before) (entry_of same)) }
-    ensures dropped { StepDrops (arrays sizes (listed targets.now rates.now counts.now) rewards.now) n r before same result }
-    ensures taken { taken.new ≡ taken.old + sizes.states }
-{
-    let states = sizes.states;
-    let mut next = [0u64; 64];
-    for i in 0..states {
-        let v = row_mean(sizes, targets, rates, counts, &before, i);
-        *taken += 1;
-        let w = reward_share(rewards[i], same[i], sizes.largest);
-        let u = mix(n, r, v.quotient, w.quotient);
-        next[i] = u.quotient;
+impl Rows<'_> {
+    ghost use Rattle.vectors.specs.Lent.{listing_of};
+
+    // V: the sum over j of c(i,j) * v(j), by E. It reads no reward. Of a model whose rows the places hold, it adds the states with
+    // a rate above 0 and the diagonal, from the highest to the lowest.
+    pub fn row_mean(&self, v: &[u64; 64], i: usize) -> Division
+        requires { RowReady self.now.sizes (listing_of self.now) v.now i }
+        ensures mean { (f : List ℕ) → result ≡ division (row_total (arrays self.now.sizes (listing_of self.now) f) (entry_of v.now) i) self.now.sizes.rate }
+        ensures order { InOrder self.now.sizes (listing_of self.now) v.now i result }
+    {
+        let first = i * self.sizes.states;
+        let last = first + self.counts[i];
+        let mut total = 0;
+        for (&j, &rate) in self.targets[first..last]
+            .iter()
+            .zip(&self.rates[first..last])
+        {
+            total += u64::from(rate) * v[usize::from(j)];
+        }
+        muldiv::divide(total, self.sizes.rate)
     }
-    next
 }
 
 // U(n,0): ONE at the states, and 0 past them.
@@ -98,10 +77,8 @@ fn ones(states: usize) -> [u64; 64]
     requires { states ≤ 64 }
     ensures { result ≡ padded states (λ i. ONE) }
 {
-    let mut next = [0u64; 64];
-    for i in 0..states {
-        next[i] = ONE;
-    }
+    let mut next = [0; 64];
+    next[..states].fill(ONE);
     next
 }
 
@@ -111,11 +88,10 @@ fn shares(sizes: Sizes, rewards: &[u64; 64], same: [u64; 64]) -> [u64; 64]
     ensures vector { (a : Listing) → result ≡ padded sizes.states (λ i. reward_share (arrays sizes a rewards.now) (get_or same i 0) i) }
     ensures dropped { SharesDrop sizes rewards.now same result }
 {
-    let states = sizes.states;
-    let mut next = [0u64; 64];
-    for i in 0..states {
+    let mut next = [0; 64];
+    for (i, entry) in next[..sizes.states].iter_mut().enumerate() {
         let w = reward_share(rewards[i], same[i], sizes.largest);
-        next[i] = w.quotient;
+        *entry = w.quotient;
     }
     next
 }
@@ -126,59 +102,64 @@ pub fn first_table(sizes: Sizes, rewards: &[u64; 64], table: &mut [[u64; 64]; 9]
     requires { RewardsReady sizes rewards.now × (sizes.highest ≤ 8) × (table.old ≡ blank) }
     ensures { (a : Listing) → table.new ≡ table_of (arrays sizes a rewards.now) sizes.highest 0 }
 {
-    let highest = sizes.highest;
     table[0] = ones(sizes.states);
-    for r in 1..highest + 1 {
-        let same = table[r - 1];
-        table[r] = shares(sizes, rewards, same);
+    for r in 1..=sizes.highest {
+        table[r] = shares(sizes, rewards, table[r - 1]);
     }
 }
 
-// The vectors of n in the place of those of n - 1: R steps, which add their row means to the count. Row r is read as
-// U(n-1,r) and becomes U(n,r); the row before it is U(n,r-1) by then.
-pub fn next_table(
-    sizes: Sizes,
-    targets: &[u8],
-    rates: &[u32],
-    counts: &[usize; 64],
-    rewards: &[u64; 64],
-    n: u64,
-    table: &mut [[u64; 64]; 9],
-    taken: &mut u64,
-)
-    requires ready { Ready sizes (listed targets.now rates.now counts.now) rewards.now × (sizes.highest ≤ 8) × (1 ≤ n) × (n ≤ 1024) × (taken.old + sizes.states * sizes.highest < 2 ^ 64) }
-    requires table_value { table.old ≡ table_of (arrays sizes (listed targets.now rates.now counts.now) rewards.now) sizes.highest (n - 1) }
-    ensures table { table.new ≡ table_of (arrays sizes (listed targets.now rates.now counts.now) rewards.now) sizes.highest n }
-    ensures taken { taken.new ≡ taken.old + sizes.states * sizes.highest }
-{
-    let highest = sizes.highest;
-    for r in 1..highest + 1 {
-        let before = table[r];
-        let same = table[r - 1];
-        table[r] = step(
-            sizes, targets, rates, counts, rewards, n, r as u64, before, same, taken,
-        );
-    }
-}
+impl LentChain<'_> {
+    ghost use Rattle.vectors.specs.Lent.{chain_in};
 
-// The vectors of n, in a table of zeros: row r becomes U(n,r). The row means that they take are counted for nobody.
-pub fn table_at(
-    sizes: Sizes,
-    targets: &[u8],
-    rates: &[u32],
-    counts: &[usize; 64],
-    rewards: &[u64; 64],
-    n: u64,
-    table: &mut [[u64; 64]; 9],
-)
-    requires { Ready sizes (listed targets.now rates.now counts.now) rewards.now × (sizes.highest ≤ 8) × (n ≤ 1024) × (table.old ≡ blank) }
-    ensures { table.new ≡ table_of (arrays sizes (listed targets.now rates.now counts.now) rewards.now) sizes.highest n }
-{
-    first_table(sizes, rewards, table);
-    let mut k: u64 = 0;
-    while k < n {
-        k += 1;
-        let mut taken = 0;
-        next_table(sizes, targets, rates, counts, rewards, k, table, &mut taken);
+    // U(n,r) of U(n-1,r), before, and U(n,r-1), same: at the states, and 0 past them. The remainders of V by E, of W by F and of U
+    // by n + r are dropped. Each row mean adds one to the count of those taken.
+    pub fn step(
+        &self,
+        n: u64,
+        r: u64,
+        before: [u64; 64],
+        same: [u64; 64],
+        taken: &mut u64,
+    ) -> [u64; 64]
+        requires { StepReady self.now.rows.sizes.states n r before same × (taken.old + self.now.rows.sizes.states < 2 ^ 64) }
+        ensures vector { result ≡ padded self.now.rows.sizes.states (next_entry (chain_in self.now) n r (entry_of before) (entry_of same)) }
+        ensures dropped { StepDrops (chain_in self.now) n r before same result }
+        ensures taken { taken.new ≡ taken.old + self.now.rows.sizes.states }
+    {
+        let sizes = self.rows.sizes;
+        let mut next = [0; 64];
+        for (i, entry) in next[..sizes.states].iter_mut().enumerate() {
+            let v = self.rows.row_mean(&before, i);
+            *taken += 1;
+            let w = reward_share(self.rewards[i], same[i], sizes.largest);
+            let u = mix(n, r, v.quotient, w.quotient);
+            *entry = u.quotient;
+        }
+        next
+    }
+
+    // The vectors of n in the place of those of n - 1: R steps, which add their row means to the count. Row r is read as
+    // U(n-1,r) and becomes U(n,r); the row before it is U(n,r-1) by then.
+    pub fn next_table(&self, n: u64, table: &mut [[u64; 64]; 9], taken: &mut u64)
+        requires in_range { (self.now.rows.sizes.highest ≤ 8) × (1 ≤ n) × (n ≤ 1024) × (taken.old + self.now.rows.sizes.states * self.now.rows.sizes.highest < 2 ^ 64) }
+        requires table_value { table.old ≡ table_of (chain_in self.now) self.now.rows.sizes.highest (n - 1) }
+        ensures table { table.new ≡ table_of (chain_in self.now) self.now.rows.sizes.highest n }
+        ensures taken { taken.new ≡ taken.old + self.now.rows.sizes.states * self.now.rows.sizes.highest }
+    {
+        for r in 1..=self.rows.sizes.highest {
+            table[r] = self.step(n, r as u64, table[r], table[r - 1], taken);
+        }
+    }
+
+    // The vectors of n, in a table of zeros: row r becomes U(n,r). The row means that they take are counted for nobody.
+    pub fn table_at(&self, n: u64, table: &mut [[u64; 64]; 9])
+        requires { (self.now.rows.sizes.highest ≤ 8) × (n ≤ 1024) × (table.old ≡ blank) }
+        ensures { table.new ≡ table_of (chain_in self.now) self.now.rows.sizes.highest n }
+    {
+        first_table(self.rows.sizes, self.rewards, table);
+        for k in 1..=n {
+            let mut taken = 0;
+            self.next_table(k, table, &mut taken);
+        }
     }
 }

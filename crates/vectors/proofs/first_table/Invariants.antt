@@ -1,5 +1,4 @@
-use mathlib.Core.Path.{◌≡◌}
-use Prim.Native.Nat.{◌+◌, ◌-◌, ◌≤◌}
+use Rattle.std.proofs.Common.{◌≡◌, ◌+◌, ◌≤◌}
 use Rattle.definitions.specs.Sums.{over}
 use Rattle.definitions.specs.Chain.{Listing, arrays}
 use Rattle.definitions.specs.Vectors.{vector}
@@ -7,7 +6,7 @@ use Rattle.vectors.specs.Table.{blank}
 use Rattle.vectors.proofs.first_table.Given as goal
 
 abbrev pub invariant-loop-r : goal.invariant-loop-r
-invariant-loop-r l = (1 ≤ l.r) × (l.r ≤ l.highest + 1) × ((a : Listing) → l.table ≡ over l.r (vector (arrays l.sizes a l.rewards) 0) blank)
-
-abbrev pub decreases-loop-r : goal.decreases-loop-r
-decreases-loop-r l = l.highest + 1 - l.r
+invariant-loop-r l = record {
+  within : l.r ≤ l.sizes.highest + 1;
+  filled : (a : Listing) → l.table ≡ over l.r (vector (arrays l.sizes a l.rewards) 0) blank;
+}

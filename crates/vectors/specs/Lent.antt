@@ -1,0 +1,12 @@
+-- What the arrays that are lent hold. Assumes nothing: these are definitions.
+use Rattle.vectors.specs.declared.Rows.{Rows}
+use Rattle.vectors.specs.declared.LentChain.{LentChain}
+use Rattle.definitions.specs.Chain.{Chain, Listing, listed, arrays}
+
+-- the rows of a chain
+abbrev pub listing_of : Rows → Listing
+listing_of rows = listed rows.targets.now rows.rates.now rows.counts.now
+
+-- the chain of the rows and the reward rates
+abbrev pub chain_in : LentChain → Chain
+chain_in chain = arrays chain.rows.sizes (listing_of chain.rows) chain.rewards.now
