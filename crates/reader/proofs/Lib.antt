@@ -1,0 +1,2 @@
+-- The lemmas that several proofs of the reader share.
+pub mod Arrays

@@ -1,0 +1,21 @@
+-- `reader::ModelFile::block_size` meets its contract. Assumes nothing.
+use Prim.Native.Nat.{◌+◌, ◌*◌, ◌≤◌}
+use mathlib.Core.Path.{◌≡◌, ap₂}
+use native.Mathlib.Omega.{arith}
+use Rattle.definitions.specs.File.{highest_moment}
+use Rattle.definitions.specs.Rules.{block_size}
+use Rattle.laws.specs.ChainLaws.{distributions_max}
+use Rattle.laws.specs.Acceptance.{block_max}
+use Rattle.reader.proofs.ModelFile.block_size.Goals as goal
+
+pub overflow_add-rows : goal.overflow_add-rows
+overflow_add-rows c = omega (arith, c.self.invariant.states_max, distributions_max c.self.inside.head)
+
+pub overflow_mul-result : goal.overflow_mul-result
+overflow_mul-result c =
+    let file = c.self.inside.head in
+    let is : file ≡ c.args.self.now = c.self.view_is in
+    let few : highest_moment file ≤ 8 = rw is c.requires in
+    let cells : (c.state_count.result + c.distributions.result) * c.highest_moment.result ≡ block_size file =
+    ap₂ ◌*◌ (ap₂ ◌+◌ c.state_count.ensures c.distributions.ensures) c.highest_moment.ensures in
+    omega (arith, cells, block_max file c.self.invariant few)

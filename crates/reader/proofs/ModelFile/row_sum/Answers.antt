@@ -1,0 +1,18 @@
+-- `reader::ModelFile::row_sum` meets its contract. Assumes nothing.
+use mathlib.Core.Path.{◌≡◌, ◌∙◌}
+use Rattle.std.proofs.Common.{rules}
+use Rattle.definitions.specs.File.{state_count}
+use Rattle.definitions.specs.Chain.{model_of, jump_rate, row_sum}
+use Rattle.reader.proofs.Arrays.{sum_at_states, sum_small}
+use Rattle.reader.proofs.ModelFile.row_sum.Goals as goal
+
+pub total-requires : goal.total-requires
+total-requires c = sum_small c.state_count.result c.rates.result (search rules) c.rates.ensures.small
+
+pub returns : goal.returns
+unfolding row_sum
+returns c =
+    let file = c.args.self.now in
+    let is : c.self.inside.head ≡ file = c.self.view_is in
+    let few = rw is at c.self.invariant.states_max in
+    c.total.ensures ∙ sum_at_states (state_count file) c.state_count.result (jump_rate (model_of file) c.args.i) c.rates.result few (rw is at c.state_count.ensures) c.rates.ensures.value
