@@ -89,19 +89,17 @@ def terms():
     return rows
 
 
-def table(name, numbers):
-    return "pub const %s: [u64; %d] = [\n%s];\n" % (name, len(numbers), "".join("    %d,\n" % n for n in numbers))
+def table(name, rows):
+    kind = ", ".join("u64" for _ in rows[0])
+    return "pub const %s: [(%s); %d] = [\n%s];\n" % (name, kind, len(rows), "".join("    %s,\n" % (row,) for row in rows))
 
 
 def main():
     here = os.path.dirname(os.path.abspath(__file__))
     rows, pairs = cases(), terms()
     with open(os.path.join(here, "src", "cases.rt"), "w") as out:
-        out.write("// Made by cases.py: case i of mul_div is A[i], B[i], C[i], and case i of over_trillion is W[i], U[i].\n")
-        out.write("pub const COUNT: usize = %d;\n\n" % len(rows))
-        out.write("\n".join(table(name, [row[k] for row in rows]) for k, name in enumerate("ABC")))
-        out.write("\npub const TERMS: usize = %d;\n\n" % len(pairs))
-        out.write("\n".join(table(name, [pair[k] for pair in pairs]) for k, name in enumerate("WU")))
+        out.write("// Made by cases.py: a, b and c of each case of mul_div, and w and u of each case of over_trillion.\n")
+        out.write(table("DIVISIONS", rows) + "\n" + table("TERMS", pairs))
     with open(os.path.join(here, "stdout"), "w") as out:
         out.writelines(expected(*row) + "\n" for row in rows)
         out.writelines(line(*divmod(w * u, 10**12)) + "\n" for w, u in pairs)

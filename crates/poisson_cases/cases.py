@@ -1,6 +1,6 @@
 """The expected output of poisson_cases: document 01's "Weights" and "Level" in plain whole numbers.
 
-Usage: python3 cases.py > stdout. With --cases it prints the two tables of src/main.rt instead.
+Usage: python3 cases.py > stdout. With --cases it prints the table of src/main.rt instead.
 """
 import sys
 
@@ -64,7 +64,7 @@ def checksum(w):
 
 
 if "--cases" in sys.argv:
-    print([x for x, _ in CASES], [e for _, e in CASES])
+    print(CASES)
     sys.exit()
 w = weights(MILLION)
 print("B", *w[:4], level(MILLION, w, 100_000_000)[0])
