@@ -7,12 +7,14 @@
 ghost use Rattle.std.specs.Prelude.{◌≡◌, ◌+◌, ◌*◌, ◌%◌, ◌^◌, ◌≤◌, length};
 ghost use Rattle.definitions.specs.Sums.{firsts};
 ghost use Rattle.definitions.specs.Fields.{words_of};
-ghost use Rattle.definitions.specs.Written.{count_of, bytes_after, written_answer};
+ghost use Rattle.definitions.specs.Rules.{answer_of};
+ghost use Rattle.definitions.specs.Written.{count_of, bytes_after};
 ghost use Rattle.definitions.specs.Practice.{next, upper, draw, practice_file, practice, DealtWell};
 ghost use Rattle.writing.specs.Puts.{Puts};
 ghost use Rattle.writing.specs.Printed.{Printed};
 
-use definitions::{Header, Judgement, Written};
+use definitions::{Header, Refusal};
+use writing::Pen;
 
 // The stream: next = previous × MULTIPLIER + INCREMENT, cut to 32 bits.
 
@@ -34,71 +36,83 @@ fn wrapping_mul(a: u32, b: u32) -> u32
 }
 
 // The stream's number after `previous`.
+#[tactic(auto, unfolding(definitions::specs::Practice::next))]
 fn next(previous: u32) -> u32
     ensures { result ≡ next previous }
 {
-    std::num::wrapping_add_u32(wrapping_mul(previous, MULTIPLIER), INCREMENT)
+    wrapping_mul(previous, MULTIPLIER).wrapping_add(INCREMENT)
 }
 
 // A draw: the upper 16 bits of a number of the stream.
+#[tactic(auto, unfolding(definitions::specs::Practice::upper))]
 fn upper(number: u32) -> u32
     ensures { result ≡ upper number }
 {
     number >> 16
 }
 
-// So many draws, those after the number `from` of the stream, 4 bytes each.
-fn put_draws(out: &mut [u8], at: usize, from: u32, count: usize) -> usize
-    requires { at + 4 * count ≤ length out.old }
-    ensures { Puts (words_of (firsts count (draw from))) (4 * count) at out.old out.new result }
-{
-    let mut to = at;
-    let mut number = from;
-    let mut done = 0;
-    while done < count {
-        number = next(number);
-        to = writing::put_big(out, to, upper(number) as u64, 4);
-        done += 1;
+// The stream, at a number of it.
+#[derive(Clone, Copy)]
+struct Stream {
+    number: u32,
+}
+
+impl Stream {
+    // A step, and the draw that it gives.
+    fn draw(&mut self) -> u32
+        ensures step { self.new.number ≡ next self.old.number }
+        ensures drawn { result ≡ upper (next self.old.number) }
+    {
+        self.number = next(self.number);
+        upper(self.number)
     }
-    to
+}
+
+// So many draws, those after a number of the stream, 4 bytes each.
+fn put_draws(pen: &mut Pen, from: Stream, count: usize)
+    requires { pen.old.at + 4 * count ≤ length pen.old.out.now }
+    ensures { Puts (words_of (firsts count (draw from.number))) (4 * count) pen.old pen.new }
+{
+    let mut stream = from;
+    for _ in 0..count {
+        pen.put_big(u64::from(stream.draw()), 4);
+    }
 }
 
 // The practice file of so many states: the first draw is for the time, the second for the first reward, and the
-// later ones for the other rewards and the rates, in the order of the file. `rewards` and `others` are the places
-// where those numbers start.
+// later ones for the other rewards and the rates, in the order of the file.
 fn put_file(out: &mut [u8], states: u8, highest: u8, seed: u32) -> usize
     requires { (1 ≤ states) × (states ≤ 64) × (4 * (states * states) + 13 ≤ length out.old) }
     ensures { Printed (practice_file states highest seed) out.old out.new result }
 {
-    let first = next(seed);
-    let second = next(first);
-    let numbers = states as usize * states as usize;
+    let mut stream = Stream { number: seed };
     let header = Header {
         version: 1,
         states,
         highest,
         tolerance: TOLERANCE,
-        time: 1 + upper(first) / 4096,
+        time: 1 + stream.draw() / 4096,
     };
-    let rewards = writing::put_header(out, header, numbers);
-    let others = writing::put_big(out, rewards, upper(second) as u64 + 1, 4);
-    put_draws(out, others, second, numbers - 1)
+    let first_reward = u64::from(stream.draw()) + 1;
+    let numbers = states as usize * states as usize;
+    let mut pen = Pen { out, at: 0 };
+    pen.put_header(header, numbers);
+    pen.put_big(first_reward, 4);
+    put_draws(&mut pen, stream, numbers - 1);
+    pen.at
 }
 
-// Deals the practice file of M = states, R = highest and a seed number: the count of its bytes, or the number of
-// the first row that holds. Where version 1 is admitted, rows 1 to 12 and 16 stop no file dealt at its own time, and
-// with M × R cells it has figures.
-pub fn practice(states: u64, highest: u64, seed: u32, out: &mut [u8]) -> Written
-    ensures answer { written_answer result ≡ count_of (practice states highest seed (length out.old)) }
+// Deals the practice file of M = states, R = highest and a seed number: the count of its bytes, or the first row that
+// holds. Where version 1 is admitted, rows 1 to 12 and 16 stop no file dealt at its own time, and with M × R cells it
+// has figures.
+pub fn practice(states: u64, highest: u64, seed: u32, out: &mut [u8]) -> Result<usize, Refusal>
+    ensures answer { answer_of result ≡ count_of (practice states highest seed (length out.old)) }
     ensures bytes { out.new ≡ bytes_after (practice states highest seed (length out.old)) out.old }
     ensures dealt { DealtWell (practice states highest seed (length out.old)) states highest seed }
 {
-    let judgement = refusals::judge_dimensions(states, highest);
-    if let Judgement::Refused(k) = judgement {
-        return Written::Refused(k);
-    }
+    refusals::judge_dimensions(states, highest)?;
     if (out.len() as u64) < 4 * states * states + 13 {
-        return Written::Refused(13);
+        return Err(Refusal::Room);
     }
-    Written::Count(put_file(out, states as u8, highest as u8, seed))
+    Ok(put_file(out, states as u8, highest as u8, seed))
 }

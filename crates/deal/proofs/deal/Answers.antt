@@ -1,33 +1,45 @@
--- `deal::deal` meets its contract: what is dealt is dealt for what the texts say. Assumes nothing.
-use mathlib.Core.Path.{◌≡◌, ◌∙◌, sym, ap}
-use native.Mathlib.Omega.{arith}
-use Rattle.definitions.specs.Maybe.{given}
-use Rattle.definitions.specs.Dealing.{seed_in}
-use Rattle.laws.specs.DealingLaws.{for_seed, for_none}
-use Rattle.numerals.specs.Answer.{numeral_answer}
+-- `deal` meets its contract: what is dealt is dealt for what the texts say. Assumes nothing.
+use Rattle.std.proofs.Common.{◌≡◌, ◌∙◌, ℕ, sym, ap, refl, arith, Some, None, Ok, Err}
+use Rattle.std.specs.Prelude.{Result}
+use Rattle.std.specs.Result.{MatchResult, IsErrAnd}
+use Rattle.std.proofs.lemmas.Result.{err_from_is_err_and}
+use Rattle.definitions.specs.declared.Refusal.{Refusal}
+use Rattle.definitions.specs.declared.NotDealt.{NotDealt}
+use Rattle.definitions.specs.declared.NotDealt.TheVariants.{Refused}
+use Rattle.definitions.specs.Dealing.{dealing_answer, seed_in}
+use Rattle.definitions.specs.Rules.{saying, answer_of}
+use Rattle.laws.specs.DealingLaws.{by_seed, for_seed, for_none}
 use Rattle.numerals.specs.Reading.{at_most}
 use Rattle.deal.proofs.deal.Goals as goal
-use Rattle.deal.proofs.deal.Goals.{In-Is}
+use Rattle.deal.proofs.deal.Goals.{In-Some}
 
 -- the seed number that the text says
-said : (c : In-Is) → seed_in c.args.seed.now ≡ given c.in-Is.n
+said : (c : In-Some) → seed_in c.args.seed.now ≡ Some c.in-Some.n
 unfolding seed_in
-said c = sym c.number_of.ensures ∙ ap numeral_answer c.in-Is.is
+said c = sym c.number_of.ensures ∙ c.in-Some.is
+
+-- a refusal that is handed on says the same
+handed_on : (r : Result ℕ Refusal) (o : Result ℕ NotDealt) → MatchResult r (λ x. o ≡ Ok x) (λ e. IsErrAnd o (λ d. d ≡ Refused e)) → dealing_answer o ≡ saying Some (answer_of r)
+handed_on (Ok x) o h = rw h
+handed_on (Err e) o h = let is = err_from_is_err_and o h in rw (is.1, is.2)
 
 pub overflow_cast-n : goal.overflow_cast-n
 unfolding seed_in
 overflow_cast-n c = omega (arith, at_most _ _ _ (said c))
 
-pub returns-in-Is : goal.returns-in-Is
-returns-in-Is c =
-    for_seed c.with_seed.ensures (said (goal.at.returns-in-Is c).In-Is) (omega (arith, c.dimension-m.ensures)) (omega (arith, c.dimension-r.ensures)) (omega arith)
-
-pub returns-in-Nothing : goal.returns-in-Nothing
+pub returns-in_err-judge_dimensions : goal.returns-in_err-judge_dimensions
 unfolding seed_in
-returns-in-Nothing c =
-    let states = c.dimension-m in
-    let highest = c.dimension-r in
-    for_none {m = states.result} {r = highest.result} {o = c.without_seed.result} c.without_seed.ensures (sym c.number_of.ensures ∙ ap numeral_answer c.in-Nothing.is) states.ensures highest.ensures
+returns-in_err-judge_dimensions c =
+    let is = err_from_is_err_and c.from_residual.result c.from_residual.ensures.1 in
+    rw (is.1, is.2) (for_none (ap (saying (λ x. None)) c.in_err-judge_dimensions.ensures) (sym c.in_default.ensures) c.dimension-m.ensures c.dimension-r.ensures)
 
-pub without_seed-requires : goal.without_seed-requires
-without_seed-requires c = tt
+pub returns-in_default : goal.returns-in_default
+unfolding seed_in
+returns-in_default c =
+    for_none (ap (saying (λ x. None)) c.in_ok-judge_dimensions.ensures) (sym c.in_default.ensures) c.dimension-m.ensures c.dimension-r.ensures
+
+pub returns : goal.returns
+returns c =
+    let practice = c.practice.ensures in
+    let answer = handed_on _ _ c.map_err.ensures.cases in
+    for_seed (by_seed _ _ _ practice.answer answer practice.bytes practice.dealt) (said (goal.at.returns c).In-Some) c.dimension-m.ensures c.dimension-r.ensures refl
