@@ -2,12 +2,11 @@
 use Rattle.std.specs.Prelude.{List, [], ℕ, ◌+◌, ◌*◌, ◌/◌, ◌%◌, ◌≤◌, ◌<◌, ◌^◌, min, leb, ltb, length, get_or, drop}
 use Rattle.definitions.specs.declared.Sizes.{Sizes}
 use Rattle.definitions.specs.Sums.{sum, blocks, pick}
-use Rattle.definitions.specs.Chain.{Chain, Listing}
+use Rattle.definitions.specs.Chain.{Chain}
 use Rattle.definitions.specs.Vectors.{ONE, U}
 use Rattle.definitions.specs.Weights.{GREATEST}
 use Rattle.definitions.specs.Moment.{term}
 use Rattle.laws.specs.LevelLaws.{LEVELS}
-use Rattle.vectors.specs.Ready.{Ready}
 
 -- U(n,r) at i in a table of vectors, for the state i and the r of cell k
 abbrev pub in_table : List (List ℕ) → ℕ → ℕ → ℕ
@@ -49,6 +48,14 @@ pub record Addable (z : Sizes) (w : ℕ) (cells : List ℕ) (table : List (List 
   pub ticks_max : (k : ℕ) → k < z.states * z.highest → in_table table z.highest k ≤ ONE
   pub room : (k : ℕ) → k < z.states * z.highest → get_or cells k 0 ≤ 1000 * GREATEST
 
+-- the same for one state: its cells are those of its moments
+pub record AddableAt (w : ℕ) (cells : List ℕ) (table : List (List ℕ)) (i : ℕ) : Type 0 where
+  pub state : i < 64
+  pub moments : length cells ≤ 8
+  pub weight_max : w ≤ GREATEST
+  pub ticks_max : (r : ℕ) → r < length cells → get_or (get_or table (r + 1) []) i 0 ≤ ONE
+  pub room : (r : ℕ) → r < length cells → get_or cells r 0 ≤ 1000 * GREATEST
+
 -- the terms of n may be added to the sums in all blocks
 pub record AllAddable (z : Sizes) (n : ℕ) (levels w cells : List ℕ) (table : List (List ℕ)) : Type 0 where
   pub fitting : Fitting z
@@ -63,12 +70,11 @@ pub record AllAddable (z : Sizes) (n : ℕ) (levels w cells : List ℕ) (table :
   pub ticks_max : (k : ℕ) → k < z.states * z.highest → in_table table z.highest k ≤ ONE
   pub room : (k e : ℕ) → k < length levels → e < z.states * z.highest → get_or cells (k * z.block + e) 0 ≤ 1000 * GREATEST
 
--- the sums in the first cells may be divided by S
-pub record Divisible (cells : List ℕ) (S count : ℕ) : Type 0 where
-  pub enough : count ≤ length cells
+-- the sums may be divided by S
+pub record Divisible (sums : List ℕ) (S : ℕ) : Type 0 where
   pub total_pos : 0 < S
   pub total_max : S < 2 ^ 62
-  pub below : (k : ℕ) → k < count → get_or cells k 0 ≤ S
+  pub below : (k : ℕ) → k < length sums → get_or sums k 0 ≤ S
 
 -- the sums in each block may be divided by its S
 pub record AllDivisible (cells totals : List ℕ) (size : ℕ) : Type 0 where
@@ -79,9 +85,8 @@ pub record AllDivisible (cells totals : List ℕ) (size : ℕ) : Type 0 where
   pub total_max : (k : ℕ) → k < length totals → get_or totals k 0 < 2 ^ 62
   pub below : (k c : ℕ) → k < length totals → c < size → get_or cells (k * size + c) 0 ≤ get_or totals k 0
 
--- what the sums are made from: the arrays of a chain, and for each level a row of weights
-pub record Summable (z : Sizes) (a : Listing) (f levels w : List ℕ) : Type 0 where
-  pub ready : Ready z a f
+-- what the sums are made from, beside a chain: for each level a row of weights
+pub record Summable (z : Sizes) (levels w : List ℕ) : Type 0 where
   pub fitting : Fitting z
   pub highest_pos : 1 ≤ z.highest
   pub highest_max : z.highest ≤ 8

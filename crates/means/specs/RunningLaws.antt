@@ -19,6 +19,7 @@ use Rattle.laws.specs.ListLaws.{over_kept, over_same, over_further}
 use Rattle.laws.specs.BlockLaws.{length_blocks, get_d_blocks, get_d_next, blocks_same, blocks_again}
 use Rattle.laws.specs.VectorLaws.{Stochastic, U_bound}
 use Rattle.laws.specs.MomentLaws.{row_of_cell, state_of_cell, moment_of_cell, term_max}
+use Rattle.vectors.specs.Ready.{Ready}
 use Rattle.vectors.specs.Table.{table_of}
 use Rattle.vectors.specs.TableLaws.{table_entry}
 use Rattle.means.specs.Running.{in_table, row_from, term_at, of_states, part_sum, part_sums, Addable, AllAddable, Summable}
@@ -129,7 +130,7 @@ module _ (ch : Chain) (B : ℕ) (levels w : List ℕ) (R : ℕ) (l : List ℕ) (
   sums_again n k now e = blocks_again B 0 (length levels) _ _ l now enough e
 
 -- the same for a function that has the sums in its cells, over what stood there, and the table of a chain in arrays
-module _ (z : Sizes) (a : Listing) (f levels w : List ℕ) (g : Summable z a f levels w) (l : List ℕ) (enough : length levels * z.block ≤ length l) where
+module _ (z : Sizes) (a : Listing) (f levels w : List ℕ) (ready : Ready z a f) (g : Summable z levels w) (l : List ℕ) (enough : length levels * z.block ≤ length l) where
   abbrev ch : Chain
   ch = arrays z a f
 
@@ -144,7 +145,7 @@ module _ (z : Sizes) (a : Listing) (f levels w : List ℕ) (g : Summable z a f l
   B = z.block
 
   M_max : z.states ≤ 64
-  M_max = g.ready.rewards.states_max
+  M_max = ready.rewards.states_max
 
   vector_in : (n k : ℕ) → k < D → in_table (table_of ch R n) R k ≡ U ch n (k % R + 1) (k / R)
   vector_in n k b = in_table_lem ch R n k M_max g.highest_pos g.highest_max b
@@ -152,7 +153,7 @@ module _ (z : Sizes) (a : Listing) (f levels w : List ℕ) (g : Summable z a f l
   room : (n k e : ℕ) → k < length levels → e < D → get_or (part_sums ch B levels w R n l) (k * B + e) 0 ≤ 1000 * GREATEST
   room n k e hk he =
       omega
-      (arith, sums_at ch B levels w R l enough n k e hk (omega (arith, he, g.fitting.states_within)), part_max ch (row_from w k) R (min n (get_or levels k 0 + 1)) e g.ready.stochastic (λ j b. g.weight_max k j hk (omega arith)) he, g.level_max k hk)
+      (arith, sums_at ch B levels w R l enough n k e hk (omega (arith, he, g.fitting.states_within)), part_max ch (row_from w k) R (min n (get_or levels k 0 + 1)) e ready.stochastic (λ j b. g.weight_max k j hk (omega arith)) he, g.level_max k hk)
 
   -- the terms of n may be added to the sums of those before
   pub may_add : (n : ℕ) (sums : List ℕ) (table : List (List ℕ)) → sums ≡ part_sums ch B levels w R n l → table ≡ table_of ch R n → AllAddable z n levels w sums table
@@ -168,7 +169,7 @@ module _ (z : Sizes) (a : Listing) (f levels w : List ℕ) (g : Summable z a f l
         highest_max = g.highest_max;
         level_max = g.level_max;
         weight_max = λ k hk h. g.weight_max k n hk h;
-        ticks_max = λ k b. rw (vector_in n k b) (U_bound ch g.ready.stochastic n (k % R + 1) (k / R) (state_of_cell k z.states R b));
+        ticks_max = λ k b. rw (vector_in n k b) (U_bound ch ready.stochastic n (k % R + 1) (k / R) (state_of_cell k z.states R b));
         room = λ k e hk he. room n k e hk he;
       })
 

@@ -2,13 +2,12 @@
 use Rattle.std.specs.Prelude.{List, ◌≡◌, ℕ, ◌+◌, ◌*◌, ◌/◌, ◌%◌, ◌≤◌, ◌<◌, length, get_or}
 use Rattle.definitions.specs.declared.Sizes.{Sizes}
 use Rattle.definitions.specs.Sums.{largest, firsts, over, rows_stored}
-use Rattle.definitions.specs.Chain.{Chain, Listing}
+use Rattle.definitions.specs.Chain.{Chain}
 use Rattle.definitions.specs.Vectors.{U}
 use Rattle.definitions.specs.Weights.{weight, weight_sum}
 use Rattle.definitions.specs.Level.{level}
 use Rattle.definitions.specs.Moment.{weighted_mean}
 use Rattle.laws.specs.LevelLaws.{LEVELS}
-use Rattle.vectors.specs.Ready.{Ready}
 use Rattle.means.specs.Running.{of_states, Fitting}
 
 -- the limits of document 01, of a list of X and ε, and at most 8 X
@@ -49,9 +48,8 @@ cell_mean ch X R N k = of_states (ch.states * R) k (weighted_mean X (λ n. U ch 
 abbrev pub means_of : Chain → List ℕ → ℕ → ℕ → ℕ → ℕ → ℕ
 means_of ch xs ε R k = cell_mean ch (get_or xs k 0) R (level_of xs ε k)
 
--- the limits of document 01, of a chain in arrays, a list of X, and ε
-pub record Solvable (z : Sizes) (a : Listing) (f xs : List ℕ) (ε : ℕ) : Type 0 where
-  pub ready : Ready z a f
+-- the limits of document 01, of the sizes of a chain, a list of X, and ε
+pub record Solvable (z : Sizes) (xs : List ℕ) (ε : ℕ) : Type 0 where
   pub fitting : Fitting z
   pub highest_pos : 1 ≤ z.highest
   pub highest_max : z.highest ≤ 8

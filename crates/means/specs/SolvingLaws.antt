@@ -19,6 +19,7 @@ use Rattle.laws.specs.WeightLaws.{weight_max, weight_sum_min, weight_sum_max}
 use Rattle.laws.specs.LevelLaws.{LEVELS, level_mode}
 use Rattle.laws.proofs.LevelLaws.{level_max}
 use Rattle.laws.specs.MomentLaws.{state_of_cell, weighted_max, last_none}
+use Rattle.vectors.specs.Ready.{Ready}
 use Rattle.means.specs.Running.{row_from, part_sum, part_sums, Topmost, Summable, AllDivisible}
 use Rattle.means.specs.RunningLaws.{in_states, past_states, length_sums, sums_at}
 use Rattle.means.specs.Solving.{Truncatable, level_of, total_of, weight_row, weight_rows, Truncations, cell_mean, means_of, Solvable}
@@ -38,7 +39,7 @@ module _ (xs : List ℕ) (ε : ℕ) (g : Truncatable xs ε) where
       ∙ get_d_stored (weight_row xs ε) LEVELS w (length xs) row_fits k n room h (omega (arith, length_firsts (level_of xs ε k + 1) (weight (get_or xs k 0))))
       ∙ get_d_firsts 0 (level_of xs ε k + 1) (weight (get_or xs k 0)) n (omega arith)
 
-module _ (z : Sizes) (lists : Listing) (f xs : List ℕ) (ε : ℕ) (g : Solvable z lists f xs ε) (top : ℕ) (before levels totals₀ totals w₀ w : List ℕ) (t : Truncations xs ε top before levels totals₀ totals w₀ w) (held : length xs ≤ length before) (room : length xs * LEVELS ≤ length w₀) where
+module _ (z : Sizes) (lists : Listing) (f xs : List ℕ) (ε : ℕ) (ready : Ready z lists f) (g : Solvable z xs ε) (top : ℕ) (before levels totals₀ totals w₀ w : List ℕ) (t : Truncations xs ε top before levels totals₀ totals w₀ w) (held : length xs ≤ length before) (room : length xs * LEVELS ≤ length w₀) where
   abbrev ch : Chain
   ch = arrays z lists f
 
@@ -78,10 +79,9 @@ module _ (z : Sizes) (lists : Listing) (f xs : List ℕ) (ε : ℕ) (g : Solvabl
         largest_max = omega (arith, t.is_largest, largest_le (length xs) 563 (level_of xs ε) (λ k h. omega (arith, level_short k h)));
       }
 
-  pub summable : Summable z lists f used w
+  pub summable : Summable z used w
   summable =
       record {
-        ready = g.ready;
         fitting = g.fitting;
         highest_pos = g.highest_pos;
         highest_max = g.highest_max;
@@ -137,7 +137,7 @@ module _ (z : Sizes) (lists : Listing) (f xs : List ℕ) (ε : ℕ) (g : Solvabl
     sum_max : (k e : ℕ) → e < D → weighted (get_or xs k 0) (λ n. U ch n (e % R + 1) (e / R)) (level_of xs ε k) ≤ total_of xs ε k
     sum_max k e he =
         weighted_max (get_or xs k 0) (level_of xs ε k) (λ n. U ch n (e % R + 1) (e / R))
-        (λ n h. U_bound ch g.ready.stochastic n (e % R + 1) (e / R) (state_of_cell e z.states R he))
+        (λ n h. U_bound ch ready.stochastic n (e % R + 1) (e / R) (state_of_cell e z.states R he))
 
     -- they may be divided by S(N), of which the totals hold one for each X
     module _ (many : length xs ≤ length totals) where

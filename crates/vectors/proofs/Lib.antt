@@ -1,3 +1,3 @@
 -- What several proofs of the reward vectors rest on.
 mod Places
-mod Filled
+pub mod Filled

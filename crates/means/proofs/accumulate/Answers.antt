@@ -1,106 +1,100 @@
 -- The sums after n terms, the vectors of n, and the row means up to n, as n rises to the largest level.
-use Prim.Native.Nat.{ℕ, ◌+◌, ◌-◌, ◌*◌, ◌^◌, ◌≤◌, ◌<◌}
-use native.Mathlib.Omega.{arith}
-use native.Mathlib.Nat.{mul-le-mul}
-use mathlib.Core.List.{List}
-use mathlib.Core.Path.{◌≡◌, refl, sym, ◌∙◌, ap}
-use lib.ListN.{length}
-use Rattle.definitions.specs.Chain.{Chain, listed, arrays}
+use Rattle.std.proofs.Common.{◌≡◌, refl, sym, ◌∙◌, List, ℕ, ◌+◌, ◌-◌, ◌*◌, ◌++◌, length, drop, arith}
+use Rattle.definitions.specs.Vectors.{row_means}
 use Rattle.laws.specs.ArrayLaws.{zeros}
 use Rattle.laws.specs.VectorLaws.{means_none, means_next, means_max}
+use Rattle.vectors.specs.Lent.{listing_of, chain_in}
 use Rattle.vectors.specs.Table.{blank, table_of}
+use Rattle.vectors.proofs.Filled.{filled_over}
 use Rattle.means.specs.Running.{part_sums}
-use Rattle.means.specs.RunningLaws.{length_sums, sums_none, sums_again, may_add, added}
+use Rattle.means.specs.RunningLaws.{sums_none, may_add, added}
 use Rattle.means.proofs.accumulate.Goals as goal
-use Rattle.means.proofs.accumulate.Goals.{After-loop-n, After-slice_known-3-1, Start}
+use Rattle.means.proofs.accumulate.Goals.{Start, After-fill, After-add_to_blocks, After-add_to_blocks-in-loop-n}
 
 pub first_table-requires : goal.first_table-requires
 unfolding blank zeros
-first_table-requires c =
-    (c.requires.0.ready.rewards, c.requires.0.highest_max, refl)
+first_table-requires c = (c.args.chain.now.ready.rewards, c.requires.0.highest_max, refl)
 
--- the cells of all blocks
-blocks_max : (c : Start) → length c.args.levels.now * c.args.sizes.block ≤ 8 * 520
-blocks_max c = mul-le-mul {n₂ = 8} {m₂ = 520} c.requires.0.count_max c.requires.0.fitting.block_max
+-- the sums of the terms of n values of n, over the cells that were lent
+abbrev sums : Start → ℕ → List ℕ
+sums c n = part_sums (chain_in c.args.chain.now) c.args.chain.now.rows.sizes.block c.args.levels.now c.args.weights.now c.args.chain.now.rows.sizes.highest n c.args.cells.now
 
--- the blocks that are cleared lie in the cells
-pub clear-requires : goal.clear-requires
-clear-requires c = omega (arith, c.requires.2)
+module _ (c : After-fill) where
+  abbrev cells : List ℕ
+  cells = c.fill.new.self ++ drop (length c.args.levels.now * c.args.chain.now.rows.sizes.block) c.args.cells.now
+
+  -- no term yet
+  cleared : cells ≡ sums (goal.at.After-fill c).Start 0
+  cleared =
+      filled_over (length c.args.levels.now * c.args.chain.now.rows.sizes.block) 0 c.fill.new.self c.args.cells.now c.requires.2 (c.fill.ensures.after (λ y e. e))
+      ∙ sums_none (chain_in c.args.chain.now) c.args.chain.now.rows.sizes.block c.args.levels.now c.args.weights.now c.args.chain.now.rows.sizes.highest c.args.cells.now c.requires.2 _ refl
+
+  first_vectors : c.first_table.new.table ≡ table_of (chain_in c.args.chain.now) c.args.chain.now.rows.sizes.highest 0
+  first_vectors = c.first_table.ensures (listing_of c.args.chain.now.rows)
 
 pub add_to_blocks-requires : goal.add_to_blocks-requires
 add_to_blocks-requires c =
-    may_add c.args.sizes _ _ _ _ c.requires.0 c.args.cells.now c.requires.2 0 _ _ (c.clear.ensures ∙ sums_none _ _ _ _ _ _ c.requires.2 _ (omega arith)) (c.first_table.ensures (listed c.args.targets.now c.args.rates.now c.args.counts.now))
-
--- where the loop begins the sums have the terms of n = 0
-module _ (b : After-slice_known-3-1) where
-  abbrev start : Start
-  start = (goal.at.After-slice_known-3-1 b).Start
-
-  abbrev ch : Chain
-  ch = arrays start.args.sizes (listed start.args.targets.now start.args.rates.now start.args.counts.now) start.args.rewards.now
-
-  abbrev sums : ℕ → List ℕ → List ℕ
-  sums n l = part_sums ch start.args.sizes.block start.args.levels.now start.args.weights.now start.args.sizes.highest n l
-
-  abbrev first : List ℕ
-  first = b.add_to_blocks.new.cells
-
-  table : b.first_table.new.table ≡ table_of ch start.args.sizes.highest 0
-  table = b.first_table.ensures (listed start.args.targets.now start.args.rates.now start.args.counts.now)
-
-  begun : first ≡ sums 1 start.args.cells.now
-  begun = added start.args.sizes _ _ _ _ start.requires.0 start.args.cells.now start.requires.2 0 _ _ _ (b.clear.ensures ∙ sums_none _ _ _ _ _ _ start.requires.2 _ (omega arith)) table b.add_to_blocks.ensures
-
-  -- over them it does not matter what stood in the cells before
-  again : (n : ℕ) → sums n first ≡ sums n start.args.cells.now
-  again n = sums_again ch _ _ _ _ start.args.cells.now start.requires.2 1 n first begun
-
-  enough : length start.args.levels.now * start.args.sizes.block ≤ length first
-  enough = omega (arith, ap (length {A = ℕ}) begun, length_sums ch start.args.sizes.block start.args.levels.now start.args.weights.now start.args.sizes.highest start.args.cells.now start.requires.2 1, start.requires.2)
+    let after = (goal.at.add_to_blocks-requires c).After-fill in
+    may_add c.args.chain.now.rows.sizes _ _ _ _ c.args.chain.now.ready c.requires.0 c.args.cells.now c.requires.2 0 _ _ (cleared after) (first_vectors after)
 
 pub loop-n-init : goal.loop-n-init
-loop-n-init c = (omega arith, sym (means_none (start c).args.sizes.states (start c).args.sizes.highest), table c, begun c ∙ sym (again c 1))
+loop-n-init c =
+    let after = (goal.at.loop-n-init c).After-fill in
+    record {
+      within = omega arith;
+      counted = sym (means_none c.args.chain.now.rows.sizes.states c.args.chain.now.rows.sizes.highest);
+      table = first_vectors after;
+      sums = added c.args.chain.now.rows.sizes _ _ _ _ c.args.chain.now.ready c.requires.0 c.args.cells.now c.requires.2 0 _ _ _ (cleared after) (first_vectors after) c.add_to_blocks.ensures;
+    }
 
 pub next_table-requires : goal.next_table-requires
 next_table-requires c =
-    let given = (start (goal.at.next_table-requires c).After-slice_known-3-1).requires in
-    let turn = c.loop-n in
-    let back : turn.n + 1 - 1 ≡ turn.n = omega arith in
-    let z = (start (goal.at.next_table-requires c).After-slice_known-3-1).args.sizes in
-    let fits : turn.taken + z.states * z.highest < 2 ^ 64 = omega (arith, turn.invariant.1, means_next turn.n z.states z.highest, means_max (turn.n + 1) z.states z.highest (omega (arith, given.1.largest_max)) given.0.ready.rewards.states_max given.0.highest_max) in
+    let z = c.args.chain.now.rows.sizes in
+    let back : c.loop-n.n - 1 + 1 ≡ c.loop-n.n = omega arith in
+    let next = rw back at (means_next (c.loop-n.n - 1) z.states z.highest) in
     record {
-      ready = (given.0.ready, given.0.highest_max, omega arith, omega (arith, given.1.largest_max), fits);
-      table_value = rw back turn.invariant.2;
+      in_range = (c.requires.0.highest_max, omega arith, omega (arith, c.requires.1.largest_max), omega (arith, c.loop-n.invariant.counted, next, means_max c.loop-n.n z.states z.highest (omega (arith, c.requires.1.largest_max)) c.args.chain.now.ready.rewards.states_max c.requires.0.highest_max));
+      table_value = c.loop-n.invariant.table;
     }
 
 pub add_to_blocks-requires-in-loop-n : goal.add_to_blocks-requires-in-loop-n
 add_to_blocks-requires-in-loop-n c =
-    let turn = c.loop-n in
-    may_add (start (goal.at.add_to_blocks-requires-in-loop-n c).After-slice_known-3-1).args.sizes _ _ _ _ (start (goal.at.add_to_blocks-requires-in-loop-n c).After-slice_known-3-1).requires.0 (first (goal.at.add_to_blocks-requires-in-loop-n c).After-slice_known-3-1) (enough (goal.at.add_to_blocks-requires-in-loop-n c).After-slice_known-3-1) (turn.n + 1) _ _ turn.invariant.3 c.next_table.ensures.table
+    may_add c.args.chain.now.rows.sizes _ _ _ _ c.args.chain.now.ready c.requires.0 c.args.cells.now c.requires.2 c.loop-n.n _ _ c.loop-n.invariant.sums c.next_table.ensures.table
+
+-- with the terms of n
+module _ (c : After-add_to_blocks-in-loop-n) where
+  abbrev start : Start
+  start = (goal.at.After-add_to_blocks-in-loop-n c).Start
+
+  summed : c.add_to_blocks-in-loop-n.new.cells ≡ sums start (c.loop-n.n + 1)
+  summed = added c.args.chain.now.rows.sizes _ _ _ _ c.args.chain.now.ready c.requires.0 c.args.cells.now c.requires.2 c.loop-n.n _ _ _ c.loop-n.invariant.sums c.next_table.ensures.table c.add_to_blocks-in-loop-n.ensures
+
+  -- and the row means up to n
+  counted : c.next_table.new.taken ≡ row_means c.loop-n.n c.args.chain.now.rows.sizes.states c.args.chain.now.rows.sizes.highest
+  counted =
+      let z = c.args.chain.now.rows.sizes in
+      let back : c.loop-n.n - 1 + 1 ≡ c.loop-n.n = omega arith in
+      omega (arith, c.next_table.ensures.taken, c.loop-n.invariant.counted, rw back at (means_next (c.loop-n.n - 1) z.states z.highest))
 
 pub loop-n-preserved : goal.loop-n-preserved
 loop-n-preserved c =
-    let turn = c.loop-n in
-    let next = c.next_table.ensures.table in
-    (omega arith, omega (arith, turn.invariant.1, means_next turn.n (start (goal.at.loop-n-preserved c).After-slice_known-3-1).args.sizes.states (start (goal.at.loop-n-preserved c).After-slice_known-3-1).args.sizes.highest, c.next_table.ensures.taken), next, added (start (goal.at.loop-n-preserved c).After-slice_known-3-1).args.sizes _ _ _ _ (start (goal.at.loop-n-preserved c).After-slice_known-3-1).requires.0 (first (goal.at.loop-n-preserved c).After-slice_known-3-1) (enough (goal.at.loop-n-preserved c).After-slice_known-3-1) (turn.n + 1) _ _ _ turn.invariant.3 next c.add_to_blocks-in-loop-n.ensures)
-
--- the sums up to the largest level, over what stood in the cells
-all : (c : After-loop-n) → c.loop-n.cells ≡ sums (goal.at.After-loop-n c).After-slice_known-3-1 ((start (goal.at.After-loop-n c).After-slice_known-3-1).args.largest + 1) (start (goal.at.After-loop-n c).After-slice_known-3-1).args.cells.now
-all c =
-    let done : c.loop-n.n ≡ (start (goal.at.After-loop-n c).After-slice_known-3-1).args.largest = omega arith in
-    rw done at c.loop-n.invariant.3 ∙ again (goal.at.After-loop-n c).After-slice_known-3-1 ((start (goal.at.After-loop-n c).After-slice_known-3-1).args.largest + 1)
-
-pub shape_of-cells : goal.shape_of-cells
-shape_of-cells c =
-    ap (length {A = ℕ}) (all c) ∙ length_sums (ch (goal.at.shape_of-cells c).After-slice_known-3-1) _ _ _ _ (start (goal.at.shape_of-cells c).After-slice_known-3-1).args.cells.now (start (goal.at.shape_of-cells c).After-slice_known-3-1).requires.2 ((start (goal.at.shape_of-cells c).After-slice_known-3-1).args.largest + 1)
+    let turn = (goal.at.loop-n-preserved c).After-add_to_blocks-in-loop-n in
+    let back : c.loop-n.n + 1 - 1 ≡ c.loop-n.n = omega arith in
+    record {
+      within = omega arith;
+      counted = rw back (counted turn);
+      table = rw back c.next_table.ensures.table;
+      sums = summed turn;
+    }
 
 pub returns : goal.returns
 returns c =
-    let done : c.loop-n.n ≡ (start (goal.at.returns c).After-slice_known-3-1).args.largest = omega arith in
-    record {
-      cells = all c;
-      taken = rw done at c.loop-n.invariant.1;
-    }
+    let all : c.loop-n.n ≡ c.args.largest + 1 = omega arith in
+    let back : c.args.largest + 1 - 1 ≡ c.args.largest = omega arith in
+    record { cells = rw all at c.loop-n.invariant.sums; taken = rw (all, back) at c.loop-n.invariant.counted }
 
-pub overflow_mul-levels : goal.overflow_mul-levels
-overflow_mul-levels c = omega (arith, blocks_max (goal.at.overflow_mul-levels c).Start)
+pub returns-2 : goal.returns-2
+returns-2 c =
+    let turn = (goal.at.returns-2 c).After-add_to_blocks-in-loop-n in
+    let all : c.loop-n.n ≡ c.args.largest = omega arith in
+    record { cells = rw all at (summed turn); taken = rw all at (counted turn) }

@@ -1,40 +1,28 @@
--- The sums are divided one after the other: from cell k on the sums stand as they were.
-use Prim.Native.Nat.{ℕ}
-use native.Mathlib.Omega.{arith}
-use mathlib.Core.Path.{◌≡◌, refl, sym, ◌∙◌, ap}
-use mathlib.Core.List.{List}
-use lib.ListN.{get_or, length-set}
+-- The sums are divided one after the other: from this one on they stand as they were.
+use Rattle.std.proofs.Common.{◌≡◌, sym, ◌∙◌, ap, List, ℕ, get_or, length, arith}
 use Rattle.definitions.specs.Moment.{last_quotient}
 use Rattle.laws.specs.ListLaws.{over_none, over_store, get_d_over_past}
 use Rattle.means.proofs.divide_sums.Goals as goal
-use Rattle.means.proofs.divide_sums.Goals.{In-loop-k}
+use Rattle.means.proofs.divide_sums.Goals.{In-loop-sum}
 
--- cell k still holds its sum
-standing : (c : In-loop-k) → get_or c.loop-k.cells c.loop-k.k 0 ≡ get_or c.args.cells.now c.loop-k.k 0
+pub loop-sum-init : goal.loop-sum-init
+loop-sum-init c = sym (over_none _ c.args.sums.now)
+
+-- this one still holds its sum
+standing : (c : In-loop-sum) → get_or c.loop-sum.sum-items c.loop-sum.sum-index 0 ≡ get_or c.args.sums.now c.loop-sum.sum-index 0
 standing c =
-    let turn = c.loop-k in
-    ap (λ (l : List ℕ). get_or l turn.k 0) turn.invariant.1 ∙ get_d_over_past 0 turn.k _ _ turn.k (omega arith)
+    ap (λ (l : List ℕ). get_or l c.loop-sum.sum-index 0) c.loop-sum.invariant ∙ get_d_over_past 0 c.loop-sum.sum-index _ c.args.sums.now c.loop-sum.sum-index (omega arith)
 
 pub last_quotient-requires : goal.last_quotient-requires
 last_quotient-requires c =
-    let sums = c.requires in
-    (omega (arith, standing (goal.at.last_quotient-requires c).In-loop-k, sums.below c.loop-k.k c.loop-k-test.true), sums.total_pos, sums.total_max)
+    (omega (arith, standing (goal.at.last_quotient-requires c).In-loop-sum, c.requires.below c.loop-sum.sum-index c.loop-sum-test.true), c.requires.total_pos, c.requires.total_max)
 
-pub loop-k-preserved : goal.loop-k-preserved
-loop-k-preserved c =
-    let k = c.loop-k.k in (
-      omega arith,
-      over_store k _ _ _ c.last_quotient.result (omega arith) c.loop-k.invariant.1 (c.last_quotient.ensures.0 ∙ ap (λ (a : ℕ). last_quotient a c.args.total) (standing (goal.at.loop-k-preserved c).In-loop-k)),
-      simp length-set c.loop-k.invariant.2,
-    )
+pub loop-sum-preserved : goal.loop-sum-preserved
+loop-sum-preserved c =
+    over_store c.loop-sum.sum-index _ c.args.sums.now _ c.last_quotient.result (omega arith) c.loop-sum.invariant
+    (c.last_quotient.ensures.0 ∙ ap (λ (a : ℕ). last_quotient a c.args.total) (standing (goal.at.loop-sum-preserved c).In-loop-sum))
 
 pub returns : goal.returns
 returns c =
-    let done : c.loop-k.k ≡ c.args.count = omega arith in
-    rw done at c.loop-k.invariant.1
-
-pub loop-k-init : goal.loop-k-init
-loop-k-init c = (omega arith, sym (over_none _ _), refl)
-
-pub shape_of-cells : goal.shape_of-cells
-shape_of-cells c = c.loop-k.invariant.2
+    let all : c.loop-sum.sum-index ≡ length c.args.sums.now = omega arith in
+    rw all at c.loop-sum.invariant

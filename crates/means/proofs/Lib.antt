@@ -1,0 +1,2 @@
+-- What several proofs of the means rest on.
+mod Parts
