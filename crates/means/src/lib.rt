@@ -51,6 +51,7 @@ impl Vectors<'_> {
         ensures { cells.new ≡ over (self.now.sizes.states * self.now.sizes.highest) (λ k. get_or cells.old k 0 + term w (in_table self.now.table.now self.now.sizes.highest k)) cells.old }
     {
         let highest = self.sizes.highest;
+        // By number: of what `chunks_mut` lent, nothing is known afterwards.
         for i in 0..self.sizes.states {
             self.add_terms_at(i, w, &mut cells[i * highest..(i + 1) * highest]);
         }
