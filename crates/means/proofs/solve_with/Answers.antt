@@ -19,6 +19,9 @@ divide_blocks-requires c =
     let many : length c.args.xs.now ≤ length c.truncate_each-largest.new.totals = omega (arith, c.requires.solvable.truncatable.count_max, c.truncate_each-largest.auto.totals) in
     divisible c.args.chain.now.rows.sizes (listing_of c.args.chain.now.rows) _ _ _ c.args.chain.now.ready c.requires.solvable _ _ _ _ _ _ _ c.truncate_each-largest.ensures c.requires.xs_in_bounds.1 c.requires.xs_in_bounds.0 c.args.cells.now c.requires.xs_in_bounds.2 many _ c.accumulate-taken.ensures.cells
 
+pub returns-clause-weights : goal.returns-clause-weights
+returns-clause-weights c = c.truncate_each-largest.ensures.are_weights
+
 pub returns-clause-cells : goal.returns-clause-cells
 returns-clause-cells c =
     let many : length c.args.xs.now ≤ length c.truncate_each-largest.new.totals = omega (arith, c.requires.solvable.truncatable.count_max, c.truncate_each-largest.auto.totals) in

@@ -59,7 +59,7 @@ put_figures-requires c =
       record {
         highest_max = c.requires.highest_max;
         room = omega (arith, length_own turn);
-        most = λ e b. rw (standing turn e b) (c.requires.most (k turn) e c.loop-k-test.true b);
+        most = λ e b. omega (arith, standing turn e b, c.requires.most (k turn) e c.loop-k-test.true b);
       },
       omega (arith, length_own turn),
     )
