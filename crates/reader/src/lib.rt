@@ -187,7 +187,8 @@ impl<'a> ModelFile<'a> {
     // The cells of one block: one for each r of each state, and one for each r of the starting distribution.
     pub fn block_size(&self) -> usize
         requires { highest_moment self.now ≤ 8 }
-        ensures { result ≡ block_size self.now }
+        ensures value { result ≡ block_size self.now }
+        ensures most { result ≤ 520 }
     {
         let rows = self.head.state_count() + self.head.distributions();
         rows * self.head.highest_moment()

@@ -1,2 +1,2 @@
 -- What the contracts cite besides document 01's definitions.
-pub mod Rated
+pub mod Verdict

@@ -1,29 +1,31 @@
--- `refusals::falls` meets its contract: of the times before k none falls. Assumes nothing.
-use Prim.Native.Nat.{◌-◌}
+-- `refusals::falls` meets its contract: each time is above the one before it just where none falls. Assumes nothing.
+use Prim.Native.Nat.{ℕ, suc, zero, ◌+◌, ◌-◌, ◌<◌}
 use mathlib.Core.Path.{◌≡◌, sym}
+use mathlib.Core.Bool.{Bool, true, false, not}
+use mathlib.Core.List.{List}
 use native.Mathlib.Omega.{arith}
+use borrow.Author.Tests.{tests, ltb-true, ltb-false}
 use native.Mathlib.Nat.{add-sub_cancel}
-use lib.ListN.{length}
+use native.Mathlib.Numerals.{add-one}
+use lib.Dec.{ltb}
+use lib.ListN.{length, get_or}
+use Rattle.std.specs.List.{IsAllAdjacentAnswer}
+use Rattle.std.proofs.Common.{rules}
+use Rattle.std.proofs.lemmas.List.Sorted.{answers_always}
+use Rattle.definitions.specs.Rules.{falls_up_to}
 use Rattle.laws.specs.RowLaws.{none_compared, rises_to, falls_at}
 use Rattle.refusals.proofs.falls.Goals as goal
 
-pub returns-then-times-k : goal.returns-then-times-k
-returns-then-times-k c =
-    let times = c.args.times.now in
-    sym (falls_at times c.loop-k.k (length times - 1) (omega arith) (omega arith) (omega arith))
+none_falls : (t : List ℕ) (n : ℕ) → ((k : ℕ) → k < n → get_or t k 0 < get_or t (k + 1) 0) → falls_up_to n t ≡ false
+none_falls t zero above = none_compared t
+none_falls t (suc n) above =
+    let before : suc n - 1 ≡ n = omega arith in
+    rises_to t (suc n) (omega arith) (rw before (none_falls t n (λ k l. above k (omega arith)))) (rw (before, sym (add-one n)) (above n (omega arith)))
 
-pub loop-k-preserved : goal.loop-k-preserved
-loop-k-preserved c =
-    let now = c.loop-k in
-    let times = c.args.times.now in
-    (omega arith, omega arith, omega arith, rw add-sub_cancel (rises_to times now.k (omega arith) now.invariant.3 (omega arith)))
+by_answer : (t : List ℕ) (r : Bool) → IsAllAdjacentAnswer (λ x y b. b ≡ ltb x y) t r → not r ≡ falls_up_to (length t - 1) t
+by_answer t true h = sym (none_falls t (length t - 1) (λ k l. ltb-true (get_or t k 0) (get_or t (k + 1) 0) (sym (h k 0 (omega arith)))))
+by_answer t false h = sym (falls_at t (h.0 + 1) (length t - 1) (omega arith) (omega arith) (rw add-sub_cancel (ltb-false (get_or t h.0 0) (get_or t (h.0 + 1) 0) (sym (h.2 0)))))
 
 pub returns : goal.returns
 returns c =
-    let now = c.loop-k in
-    let times = c.args.times.now in
-    let all : now.k - 1 ≡ length times - 1 = omega arith in
-    sym (rw all at now.invariant.3)
-
-pub loop-k-init : goal.loop-k-init
-loop-k-init c = (omega arith, omega arith, omega arith, none_compared _)
+    by_answer c.args.times.now c.is_sorted_by.result (c.is_sorted_by.ensures.cases (λ x y. ltb x y) (answers_always _ _ _ (λ f a r q k. search (rules, tests))))

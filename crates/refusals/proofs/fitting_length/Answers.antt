@@ -20,7 +20,7 @@ module _ (c : After-distributions) where
 
   weights : c.distributions.result * states ≤ 64
   weights =
-      let once : c.distributions.result * states ≤ 1 * states = mul-le-mul_right states (omega (arith, c.distributions.ensures, distributions_max c.args.file.now)) in
+      let once : c.distributions.result * states ≤ 1 * states = mul-le-mul_right states (omega (arith, c.distributions.ensures, distributions_max c.args.head.now)) in
       omega (arith, once, few)
 
 pub returns : goal.returns

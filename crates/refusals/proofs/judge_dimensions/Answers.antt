@@ -1,27 +1,26 @@
--- `refusals::judge_dimensions` meets its contract: rows 4 and 5. Assumes nothing.
-use mathlib.Core.Path.{◌≡◌, ◌∙◌, sym}
-use lib.ListN.{drop}
-use Rattle.definitions.specs.Rules.{Rows, outside, dimensions, judged_by}
+-- `refusals::judge_dimensions` meets its contract: row 4, then row 5. Assumes nothing.
+use mathlib.Core.Path.{◌≡◌, ◌∙◌, sym, ap}
+use mathlib.Core.List.{◌∷◌, []}
+use Rattle.std.specs.Prelude.{Err}
+use Rattle.std.proofs.Common.{rules}
+use Rattle.definitions.specs.Rules.{outside, state_row, answer_of}
 use Rattle.laws.specs.RuleLaws.{row_stops, row_passes, none_left}
+use Rattle.refusals.proofs.Parts.{first_refuses, second_answers}
 use Rattle.refusals.proofs.judge_dimensions.Goals as goal
-use Rattle.refusals.proofs.judge_dimensions.Goals.{Else-outside, Start}
 
-abbrev sizes : Start → Rows
-sizes start = dimensions start.args.states start.args.highest
-
--- past row 4 the row after it answers
-past_4 : (c : Else-outside) → judged_by (sizes (goal.at.Else-outside c).Start) ≡ judged_by (drop 1 (sizes (goal.at.Else-outside c).Start))
-past_4 c = row_passes 4 (outside 1 64 c.args.states) _ _ (sym c.outside.ensures ∙ c.if-outside.false)
+pub returns-in_err-judge_states : goal.returns-in_err-judge_states
+returns-in_err-judge_states c =
+    let args = c.args in
+    let gave : c.from_residual.result ≡ Err c.in_err-judge_states.field-0.0 = search rules in
+    ap answer_of gave ∙ first_refuses (state_row args.states) ((5, outside 1 8 args.highest) ∷ []) tt tt _ c.in_err-judge_states.ensures
 
 pub returns-then-outside : goal.returns-then-outside
-returns-then-outside c = sym (row_stops 4 (outside 1 64 c.args.states) _ _ (sym c.outside.ensures ∙ c.if-outside.true))
-
-pub returns-then-outside-2 : goal.returns-then-outside-2
-returns-then-outside-2 c =
+returns-then-outside c =
     let args = c.args in
-    sym (past_4 (goal.at.returns-then-outside-2 c).Else-outside ∙ row_stops 5 (outside 1 8 args.highest) _ _ (sym c.outside-2.ensures ∙ c.if-outside-2.true))
+    sym (row_stops 5 (outside 1 8 args.highest) [] tt (sym c.if-outside.ensures)) ∙ second_answers (state_row args.states) ((5, outside 1 8 args.highest) ∷ []) tt tt tt c.in_ok-judge_states.ensures
 
 pub returns : goal.returns
 returns c =
     let args = c.args in
-    sym (past_4 (goal.at.returns c).Else-outside ∙ row_passes 5 (outside 1 8 args.highest) _ _ (sym c.outside-2.ensures ∙ c.if-outside-2.false) ∙ none_left tt)
+    sym (row_passes 5 (outside 1 8 args.highest) [] tt (sym c.if-outside.ensures) ∙ none_left tt)
+    ∙ second_answers (state_row args.states) ((5, outside 1 8 args.highest) ∷ []) tt tt tt c.in_ok-judge_states.ensures

@@ -1,38 +1,48 @@
 -- `refusals::judge_file` meets its contract: the rows that all calls share, then the jumps. Assumes nothing.
-use mathlib.Core.Path.{refl, ◌∙◌, sym, ap}
-use mathlib.Core.List.{[]}
+use mathlib.Core.Path.{◌≡◌, refl, ◌∙◌, sym}
+use mathlib.Core.List.{List, []}
 use native.Mathlib.Omega.{arith}
+use Rattle.std.specs.Prelude.{Err, ℕ}
+use Rattle.std.proofs.Common.{rules}
 use Rattle.definitions.specs.File.{time_field}
 use Rattle.definitions.specs.Chain.{model_of, uniform_rate}
+use Rattle.definitions.specs.Rules.{jumps, judged_by, file_judgement}
 use Rattle.laws.specs.RowLaws.{same_jumps}
-use Rattle.laws.specs.Acceptance.{Rateable, rateable, file_in_parts}
-use Rattle.refusals.specs.Rated.{rated_as}
+use Rattle.laws.specs.Acceptance.{rateable, file_in_parts}
 use Rattle.refusals.proofs.judge_file.Goals as goal
-use Rattle.refusals.proofs.judge_file.Goals.{In-Rate}
+use Rattle.refusals.proofs.judge_file.Goals.{After-time}
 
--- what the shared rows tell of the file that they pass
-told : (c : In-Rate) → Rateable c.args.file.now c.in-Rate.rate
-told c =
+pub returns-in_err-file-clause-judged : goal.returns-in_err-file-clause-judged
+returns-in_err-file-clause-judged c =
     let args = c.args in
-    rateable args.low args.high args.file.now [] _ (sym c.judge_model-model.ensures ∙ ap rated_as c.in-Rate.is)
-
-pub time-requires : goal.time-requires
-time-requires c = omega (arith, (told c).framed.size)
+    let gave : c.from_residual.result ≡ Err c.in_err-file.field-0.0 = search rules in
+    rw gave (sym (file_in_parts args.low args.high args.bytes.now ∙ rw (sym c.in_err-file.ensures.rated) refl))
 
 pub judge_jumps-requires : goal.judge_jumps-requires
-judge_jumps-requires c = omega (arith, told (goal.at.judge_jumps-requires c).In-Rate)
-
-pub returns-in-Refused : goal.returns-in-Refused
-returns-in-Refused c =
+judge_jumps-requires c =
     let args = c.args in
-    let stopped = sym c.judge_model-model.ensures ∙ ap rated_as c.in-Refused.is in
-    sym (file_in_parts args.low args.high args.file.now ∙ rw stopped refl)
+    let told = rateable args.low args.high args.bytes.now [] _ (sym c.in_ok-file.ensures.rated) in
+    omega (arith, told)
 
-pub returns-in-Rate : goal.returns-in-Rate
-returns-in-Rate c =
-    let args = c.args in
-    let s = args.file.now in
-    let passed = sym c.judge_model-model.ensures ∙ ap rated_as c.in-Rate.is in
-    c.judge_jumps.ensures
-    ∙ same_jumps (uniform_rate (model_of s)) (time_field s) (told (goal.at.returns-in-Rate c).In-Rate).rate (omega arith)
-    ∙ sym (file_in_parts args.low args.high s ∙ rw passed refl)
+-- past the shared rows the jumps answer
+module _ (c : After-time) where
+  abbrev s : List ℕ
+  s = c.args.bytes.now
+
+  jumps_answer : judged_by (jumps c.in_ok-file.rate c.time.result) ≡ file_judgement c.args.low c.args.high s
+  jumps_answer =
+      let args = c.args in
+      let is : c.in_ok-file.file ≡ s = c.in_ok-file.ensures.same in
+      let opened : c.file.inside.head ≡ c.in_ok-file.file = c.file.view_is in
+      let time : c.time.result ≡ time_field s = rw (opened, is) at c.time.ensures in
+      let told = rateable args.low args.high s [] _ (sym c.in_ok-file.ensures.rated) in
+      same_jumps (uniform_rate (model_of s)) (time_field s) told.rate time
+      ∙ sym (file_in_parts args.low args.high s ∙ rw (sym c.in_ok-file.ensures.rated) refl)
+
+pub returns-in_err-judge_jumps-clause-judged : goal.returns-in_err-judge_jumps-clause-judged
+returns-in_err-judge_jumps-clause-judged c =
+    let gave : c.from_residual-in_err-judge_jumps.result ≡ Err c.in_err-judge_jumps.field-0.0 = search rules in
+    rw gave (c.in_err-judge_jumps.ensures ∙ jumps_answer (goal.at.returns-in_err-judge_jumps-clause-judged c).After-time)
+
+pub returns-clause-judged : goal.returns-clause-judged
+returns-clause-judged c = c.in_ok-judge_jumps.ensures ∙ jumps_answer (goal.at.returns-clause-judged c).After-time

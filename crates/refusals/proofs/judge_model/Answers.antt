@@ -1,27 +1,27 @@
 -- `refusals::judge_model` meets its contract: the framing, then the quantities. Assumes nothing.
-use mathlib.Core.Path.{refl, ◌∙◌, sym, ap}
+use mathlib.Core.Path.{◌≡◌, ◌∙◌}
+use Rattle.std.specs.Prelude.{Err}
+use Rattle.std.proofs.Common.{rules}
 use Rattle.definitions.specs.Chain.{model_of, uniform_rate}
-use Rattle.definitions.specs.Rules.{framing, quantities, verdict}
-use Rattle.laws.specs.RuleLaws.{in_parts, none_hold}
-use Rattle.laws.specs.Acceptance.{framed_by}
+use Rattle.definitions.specs.Rules.{framing, quantities}
+use Rattle.refusals.proofs.Parts.{first_refuses, second_answers}
 use Rattle.refusals.proofs.judge_model.Goals as goal
 
-pub judge_quantities-requires : goal.judge_quantities-requires
-judge_quantities-requires c =
-    let args = c.args in
-    framed_by args.low args.high args.file.now (none_hold (framing args.low args.high args.file.now) (tt {0}) tt (sym c.judge_framing-framing.ensures ∙ ap verdict c.in-Accepted.is))
+pub returns-in_err-file-clause-rated : goal.returns-in_err-file-clause-rated
+returns-in_err-file-clause-rated c =
+    let s = c.args.bytes.now in
+    let gave : c.from_residual.result ≡ Err c.in_err-file.field-0.0 = search rules in
+    rw gave (first_refuses (framing c.args.low c.args.high s) (quantities (model_of s) c.args.times.now) tt (uniform_rate (model_of s)) _ c.in_err-file.ensures.judged)
 
-pub returns-in-Refused : goal.returns-in-Refused
-returns-in-Refused c =
-    let args = c.args in
-    let s = args.file.now in
-    let stopped = sym c.judge_framing-framing.ensures ∙ ap verdict c.in-Refused.is in
-    sym (in_parts (framing args.low args.high s) (quantities (model_of s) args.times.now) (tt {0}) (uniform_rate (model_of s)) ∙ rw stopped refl)
+pub returns-in_err-rate-clause-rated : goal.returns-in_err-rate-clause-rated
+returns-in_err-rate-clause-rated c =
+    let s = c.args.bytes.now in
+    let is : c.in_ok-file.file ≡ s = c.in_ok-file.ensures.same in
+    let gave : c.from_residual-in_err-rate.result ≡ Err c.in_err-rate.field-0.0 = search rules in
+    rw gave (rw is at c.in_err-rate.ensures ∙ second_answers (framing c.args.low c.args.high s) (quantities (model_of s) c.args.times.now) tt tt (uniform_rate (model_of s)) c.in_ok-file.ensures.judged)
 
-pub returns-in-Accepted : goal.returns-in-Accepted
-returns-in-Accepted c =
-    let args = c.args in
-    let s = args.file.now in
-    let passed = sym c.judge_framing-framing.ensures ∙ ap verdict c.in-Accepted.is in
-    c.judge_quantities.ensures
-    ∙ sym (in_parts (framing args.low args.high s) (quantities (model_of s) args.times.now) (tt {0}) (uniform_rate (model_of s)) ∙ rw passed refl)
+pub returns-clause-rated : goal.returns-clause-rated
+returns-clause-rated c =
+    let s = c.args.bytes.now in
+    let is : c.in_ok-file.file ≡ s = c.in_ok-file.ensures.same in
+    rw is at c.in_ok-rate.ensures ∙ second_answers (framing c.args.low c.args.high s) (quantities (model_of s) c.args.times.now) tt tt (uniform_rate (model_of s)) c.in_ok-file.ensures.judged

@@ -41,7 +41,9 @@ start10 c = start9 (goal.at.Else-most-eq0 c).Else-most-gt-MOST_REWARD
 
 past_7 : (c : Else-outside) → Left (start7 c) 1
 unfolding quantities
-past_7 c = row_passes 7 _ _ _ (rw c.tolerance.ensures at (sym c.outside.ensures ∙ c.if-outside.false))
+past_7 c =
+    let is : c.file.inside.head ≡ c.args.file.now = c.file.view_is in
+    row_passes 7 _ _ _ (rw (c.tolerance.ensures, is) at (sym c.outside.ensures ∙ c.if-outside.false))
 
 past_8 : (c : Else-without_time) → Left (start8 c) 2
 unfolding quantities
@@ -61,7 +63,9 @@ past_10 c = past_9 (goal.at.Else-most-eq0 c).Else-most-gt-MOST_REWARD ∙ row_pa
 
 pub returns-then-outside : goal.returns-then-outside
 unfolding quantities
-returns-then-outside c = sym (row_stops 7 _ _ _ (rw c.tolerance.ensures at (sym c.outside.ensures ∙ c.if-outside.true)))
+returns-then-outside c =
+    let is : c.file.inside.head ≡ c.args.file.now = c.file.view_is in
+    sym (row_stops 7 _ _ _ (rw (c.tolerance.ensures, is) at (sym c.outside.ensures ∙ c.if-outside.true)))
 
 pub returns-then-without_time : goal.returns-then-without_time
 unfolding quantities

@@ -1,125 +1,98 @@
 -- `refusals::judge_times` meets its contract: rows 14 and 15, then the jumps and the room. Assumes nothing.
 use Prim.Native.Nat.{ℕ, ◌*◌, ◌≤◌}
-use mathlib.Core.Path.{◌≡◌, refl, ◌∙◌, sym, ap}
-use mathlib.Core.Bool.{false}
+use mathlib.Core.Path.{◌≡◌, ◌∙◌, sym}
 use mathlib.Core.List.{List, ◌++◌}
 use native.Mathlib.Omega.{arith}
 use lib.ListN.{length, drop}
-use Rattle.definitions.specs.Rules.{Answer, refused, Rows, outside, listing, last_time, jumps, room, block_size, judged_by, verdict}
-use Rattle.laws.specs.RuleLaws.{row_stops, row_passes, and_then, in_parts}
-use Rattle.laws.specs.RowLaws.{in_range, same_jumps, same_room, too_few, enough}
+use Rattle.std.specs.Prelude.{Err}
+use Rattle.std.proofs.Common.{rules}
+use Rattle.definitions.specs.Rules.{accepted, Rows, listing, last_time, jumps, room, block_size, judged_by}
+use Rattle.laws.specs.RuleLaws.{row_stops, row_passes}
+use Rattle.laws.specs.RowLaws.{in_range, too_few, enough}
+use Rattle.refusals.proofs.Parts.{first_refuses, second_answers}
 use Rattle.refusals.proofs.judge_times.Goals as goal
-use Rattle.refusals.proofs.judge_times.Goals.{After-judge_jumps-jumps, After-judge_room-room, Else-falls, Else-outside, Start}
+use Rattle.refusals.proofs.judge_times.Goals.{Else-falls, Else-outside, Start}
 
 abbrev times : Start → List ℕ
 times start = start.args.times.now
 
--- the room for the blocks, and for the levels
+-- row 12 of the last time, the room for the blocks, and for the levels
+abbrev last : Start → Rows
+last start = jumps start.args.rate (last_time (times start))
+
 abbrev blocks : Start → Rows
 blocks start = room (length (times start) * block_size start.args.file.now) start.args.cells
 
 abbrev levels : Start → Rows
 levels start = room (length (times start)) start.args.levels
 
--- all rows
 abbrev listed : Start → Rows
-listed start = listing (times start) ++ jumps start.args.rate (last_time (times start)) ++ blocks start ++ levels start
+listed start = listing (times start) ++ last start ++ blocks start ++ levels start
 
--- the rows past the first k answer
-abbrev Left : Start → ℕ → Type 0
-Left start k = judged_by (listed start) ≡ judged_by (drop k (listed start))
-
--- from the place past a row's test, and past the jumps and the room, back to the start
+-- from the place past a row's test back to the start
 abbrev start14 : Else-outside → Start
 start14 c = (goal.at.Else-outside c).Start
 
 abbrev start15 : Else-falls → Start
 start15 c = start14 (goal.at.Else-falls c).Else-outside
 
-abbrev start12 : After-judge_jumps-jumps → Start
-start12 c = start15 (goal.at.After-judge_jumps-jumps c).Else-falls
-
-abbrev start_room : After-judge_room-room → Start
-start_room c = start12 (goal.at.After-judge_room-room c).After-judge_jumps-jumps
-
 -- past its test there are 1 to 8 times
-counted : (c : Else-outside) → outside 1 8 (length (times (start14 c))) ≡ false
-counted c = sym c.outside.ensures ∙ c.if-outside.false
-
-past_14 : (c : Else-outside) → Left (start14 c) 1
-unfolding listing
-past_14 c = row_passes 14 (outside 1 8 (length (times (start14 c)))) _ _ (counted c)
-
-past_15 : (c : Else-falls) → Left (start15 c) 2
-unfolding listing
-past_15 c = past_14 (goal.at.Else-falls c).Else-outside ∙ row_passes 15 _ _ _ (sym c.falls.ensures ∙ c.if-falls.false)
-
 count : (c : Else-outside) → (1 ≤ length (times (start14 c))) × (length (times (start14 c)) ≤ 8)
-count c = in_range 1 8 (length (times (start14 c))) (counted c)
+count c = in_range 1 8 (length (times (start14 c))) (sym c.if-outside.ensures)
 
--- the rows in parts: the jumps, then the room for the blocks, then that for the levels
-past_15_parts : (c : Else-falls) →
-    let start = start15 c in
-    judged_by (listed start) ≡ and_then (and_then (judged_by (jumps start.args.rate (last_time (times start)))) (judged_by (blocks start))) (judged_by (levels start))
+past_14 : (c : Else-outside) → judged_by (listed (start14 c)) ≡ judged_by (drop 1 (listed (start14 c)))
 unfolding listing
-past_15_parts c =
-    let start = start15 c in
-    let X : Rows = jumps start.args.rate (last_time (times start)) in
-    past_15 c
-    ∙ in_parts (X ++ blocks start) (levels start) tt tt
-    ∙ ap (λ (a : Answer (Unit {0})). and_then a (judged_by (levels start))) (in_parts X (blocks start) tt tt)
+past_14 c = row_passes 14 _ _ _ (sym c.if-outside.ensures)
 
--- row 12 is judged on the last time
-past_12 : (c : After-judge_jumps-jumps) →
-    let start = start12 c in
-    judged_by (listed start) ≡ and_then (and_then (verdict c.judge_jumps-jumps.result) (judged_by (blocks start))) (judged_by (levels start))
-past_12 c =
-    let start = start12 c in
-    let given = c.judge_jumps-jumps.ensures ∙ same_jumps start.args.rate (last_time (times start)) (omega arith) (omega arith) in
-    past_15_parts (goal.at.After-judge_jumps-jumps c).Else-falls
-    ∙ ap (λ (a : Answer (Unit {0})). and_then (and_then a (judged_by (blocks start))) (judged_by (levels start))) (sym given)
-
--- past it the room for the blocks answers, and where it accepts, that for the levels
-past_rows : (c : After-judge_room-room) → judged_by (listed (start_room c)) ≡ and_then (verdict c.judge_room-room.result) (judged_by (levels (start_room c)))
-past_rows c =
-    let start = start_room c in
-    let given = c.judge_room-room.ensures ∙ same_room (length (times start) * block_size start.args.file.now) start.args.cells (omega arith) (omega arith) in
-    past_12 (goal.at.After-judge_room-room c).After-judge_jumps-jumps
-    ∙ rw c.in_default.is (ap (λ (a : Answer (Unit {0})). and_then a (judged_by (levels start))) (sym given))
+past_15 : (c : Else-falls) → judged_by (listed (start15 c)) ≡ judged_by (last (start15 c) ++ blocks (start15 c) ++ levels (start15 c))
+unfolding listing
+past_15 c = past_14 (goal.at.Else-falls c).Else-outside ∙ row_passes 15 _ _ _ (sym c.if-falls.ensures)
 
 pub returns-then-outside : goal.returns-then-outside
 unfolding listing
-returns-then-outside c =
-    let stopped : judged_by (listed (goal.at.returns-then-outside c).Start) ≡ refused 14 = row_stops 14 (outside 1 8 (length (times (goal.at.returns-then-outside c).Start))) _ _ (sym c.outside.ensures ∙ c.if-outside.true) in
-    sym stopped
+returns-then-outside c = sym (row_stops 14 _ _ _ (sym c.if-outside.ensures))
 
 pub returns-then-falls : goal.returns-then-falls
 unfolding listing
-returns-then-falls c = sym (past_14 (goal.at.returns-then-falls c).Else-outside ∙ row_stops 15 _ _ _ (sym c.falls.ensures ∙ c.if-falls.true))
+returns-then-falls c = sym (past_14 (goal.at.returns-then-falls c).Else-outside ∙ row_stops 15 _ _ _ (sym c.if-falls.ensures))
 
-pub returns-in-Refused : goal.returns-in-Refused
-returns-in-Refused c = sym (past_12 (goal.at.returns-in-Refused c).After-judge_jumps-jumps ∙ rw c.in-Refused.is refl)
+pub returns-in_err-judge_jumps : goal.returns-in_err-judge_jumps
+unfolding jumps
+returns-in_err-judge_jumps c =
+    let d = (goal.at.returns-in_err-judge_jumps c).Else-falls in
+    let start = start15 d in
+    let gave : c.from_residual.result ≡ Err c.in_err-judge_jumps.field-0.0 = search rules in
+    rw gave (first_refuses (last start) (blocks start ++ levels start) tt tt _ c.in_err-judge_jumps.ensures ∙ sym (past_15 d))
 
-pub judge_room-room-requires : goal.judge_room-room-requires
-judge_room-room-requires c =
-    let start = start12 (goal.at.judge_room-room-requires c).After-judge_jumps-jumps in
-    (start.requires.0, start.requires.1, omega (arith, count (goal.at.judge_room-room-requires c).Else-outside))
+-- past the jumps the room answers
+past_12 : (d : Else-falls) → accepted tt ≡ judged_by (last (start15 d)) → judged_by (blocks (start15 d) ++ levels (start15 d)) ≡ judged_by (listed (start15 d))
+unfolding jumps
+past_12 d jumped =
+    let start = start15 d in
+    second_answers (last start) (blocks start ++ levels start) tt tt tt jumped ∙ sym (past_15 d)
 
-pub returns-in-Refused-room : goal.returns-in-Refused-room
-returns-in-Refused-room c = sym (past_rows (goal.at.returns-in-Refused-room c).After-judge_room-room ∙ rw c.in-Refused-room.is refl)
+pub judge_room-requires : goal.judge_room-requires
+judge_room-requires c = (c.requires.0, omega (arith, count (goal.at.judge_room-requires c).Else-outside))
+
+pub returns-in_err-judge_room : goal.returns-in_err-judge_room
+returns-in_err-judge_room c =
+    let d = (goal.at.returns-in_err-judge_room c).Else-falls in
+    let start = start15 d in
+    let gave : c.from_residual-in_err-judge_room.result ≡ Err c.in_err-judge_room.field-0.0 = search rules in
+    rw gave (first_refuses (blocks start) (levels start) tt tt _ c.in_err-judge_room.ensures ∙ past_12 d c.in_ok-judge_jumps.ensures)
 
 pub returns-then-levels-count : goal.returns-then-levels-count
 returns-then-levels-count c =
-    let start = start_room (goal.at.returns-then-levels-count c).After-judge_room-room in
-    sym (past_rows (goal.at.returns-then-levels-count c).After-judge_room-room ∙ rw c.in_default-room.is (too_few (length (times start)) start.args.levels (omega arith)))
+    let d = (goal.at.returns-then-levels-count c).Else-falls in
+    let start = start15 d in
+    sym (too_few (length (times start)) start.args.levels (omega arith))
+    ∙ second_answers (blocks start) (levels start) tt tt tt c.in_ok-judge_room.ensures
+    ∙ past_12 d c.in_ok-judge_jumps.ensures
 
 pub returns : goal.returns
 returns c =
-    let start = start_room (goal.at.returns c).After-judge_room-room in
-    sym (past_rows (goal.at.returns c).After-judge_room-room ∙ rw c.in_default-room.is (enough (length (times start)) start.args.levels (omega arith)))
-
-pub overflow_sub-count : goal.overflow_sub-count
-overflow_sub-count c = omega (arith, count (goal.at.overflow_sub-count c).Else-outside)
-
-pub bounds-times-count : goal.bounds-times-count
-bounds-times-count c = omega (arith, count (goal.at.bounds-times-count c).Else-outside)
+    let d = (goal.at.returns c).Else-falls in
+    let start = start15 d in
+    sym (enough (length (times start)) start.args.levels (omega arith))
+    ∙ second_answers (blocks start) (levels start) tt tt tt c.in_ok-judge_room.ensures
+    ∙ past_12 d c.in_ok-judge_jumps.ensures

@@ -1,0 +1,2 @@
+-- The lemmas that several proofs share.
+pub mod Parts
