@@ -8,111 +8,103 @@ ghost use Rattle.std.specs.Prelude.{◌≡◌, [], ◌∷◌, ◌++◌, ◌+◌,
 ghost use Rattle.definitions.specs.Sums.{any_above};
 ghost use Rattle.definitions.specs.Bytes.{bytes_of};
 ghost use Rattle.definitions.specs.File.{state_count, weight_field};
-ghost use Rattle.definitions.specs.Rules.{accepted, file_judgement};
-ghost use Rattle.definitions.specs.Written.{count_of, bytes_after, written_answer};
+ghost use Rattle.definitions.specs.Rules.{accepted, answer_of, file_judgement};
+ghost use Rattle.definitions.specs.Written.{count_of, bytes_after};
 ghost use Rattle.definitions.specs.Convert.{moved_to_2, moved_to_1, to_version_2, to_version_1, ThereAndBack};
-ghost use Rattle.laws.specs.Acceptance.{Framed};
 ghost use Rattle.writing.specs.Puts.{Puts};
 ghost use Rattle.writing.specs.Printed.{Printed};
 
-use definitions::{ALL_WEIGHT, Judgement, Written};
+use definitions::{ALL_WEIGHT, Refusal};
+use reader::ModelFile;
+use writing::Pen;
 
 // Row 17: whether a state other than the first has weight.
-fn weight_elsewhere(file: &[u8]) -> bool
-    requires { Framed file.now }
+fn weight_elsewhere(file: &ModelFile) -> bool
     ensures { result ≡ any_above 0 (state_count file.now - 1) (λ i. weight_field file.now (i + 1)) }
 {
-    let states = reader::state_count(file);
-    let weights = reader::weights_of(file);
-    for i in 1..states {
-        if weights[i] > 0 {
-            return true;
-        }
-    }
-    false
+    let weights = file.weights();
+    weights[1..file.head.state_count()]
+        .iter()
+        .any(|&weight| weight > 0)
 }
 
 // The first 13 bytes of the moved file: its length field, its version, and bytes 3 to 12 as the file has them.
-fn put_header(file: &[u8], out: &mut [u8], later: u64, version: u8) -> usize
-    requires { (13 ≤ length file.now) × (13 ≤ length out.old) }
-    ensures { Puts (bytes_of 2 later ++ (version ∷ []) ++ take 10 (drop 3 file.now)) 13 0 out.old out.new result }
+fn put_header(pen: &mut Pen, bytes: &[u8], later: u64, version: u8)
+    requires { (13 ≤ length bytes.now) × (pen.old.at + 13 ≤ length pen.old.out.now) }
+    ensures { Puts (bytes_of 2 later ++ (version ∷ []) ++ take 10 (drop 3 bytes.now)) 13 pen.old pen.new }
 {
-    let second = writing::put_big(out, 0, later, 2);
-    let third = writing::put(out, second, version);
-    writing::put_word(out, third, &file[reader::STATES_AT..reader::HEADER])
+    pen.put_big(later, 2);
+    pen.put(version);
+    pen.put_word(&bytes[reader::STATES_AT..reader::HEADER]);
 }
 
 // The weights of so many states: all of it on the first, none on the others.
-fn put_weights(out: &mut [u8], at: usize, states: usize) -> usize
-    requires { (1 ≤ states) × (states ≤ 64) × (at + 4 * states ≤ length out.old) }
-    ensures { Puts (bytes_of 4 1000000 ++ replicate (4 * (states - 1)) 0) (4 * states) at out.old out.new result }
+fn put_weights(pen: &mut Pen, states: usize)
+    requires { (1 ≤ states) × (states ≤ 64) × (pen.old.at + 4 * states ≤ length pen.old.out.now) }
+    ensures { Puts (bytes_of 4 1000000 ++ replicate (4 * (states - 1)) 0) (4 * states) pen.old pen.new }
 {
-    let others = writing::put_big(out, at, ALL_WEIGHT, 4);
-    writing::put_zeros(out, others, 4 * (states - 1))
+    pen.put_big(ALL_WEIGHT, 4);
+    pen.put_zeros(4 * (states - 1));
 }
 
 // A version 1 file in version 2: with all weight on state 1, and the rest as the file has it.
-fn put_version_2(file: &[u8], out: &mut [u8]) -> usize
+fn put_version_2(file: &ModelFile, out: &mut [u8]) -> usize
     requires file_value { file_judgement 1 1 file.now ≡ accepted tt }
     requires file_in_bounds { length file.now + 4 * state_count file.now ≤ length out.old }
     ensures { Printed (moved_to_2 file.now) out.old out.new result }
 {
-    let states = reader::state_count(file);
-    let later = reader::length_field(file) + 4 * states as u64;
-    let weights = put_header(file, out, later, 2);
-    let rewards = put_weights(out, weights, states);
-    writing::put_word(out, rewards, &file[reader::HEADER..])
+    let bytes = file.bytes();
+    let states = file.head.state_count();
+    let later = file.head.length_field() + 4 * states as u64;
+    let mut pen = Pen { out, at: 0 };
+    put_header(&mut pen, bytes, later, 2);
+    put_weights(&mut pen, states);
+    pen.put_word(&bytes[reader::HEADER..]);
+    pen.at
 }
 
 // A version 2 file in version 1: without its weights, and the rest as the file has it.
-fn put_version_1(file: &[u8], out: &mut [u8]) -> usize
+fn put_version_1(file: &ModelFile, out: &mut [u8]) -> usize
     requires file_value { file_judgement 2 2 file.now ≡ accepted tt }
     requires file_in_bounds { length file.now ≤ length out.old + 4 * state_count file.now }
     ensures { Printed (moved_to_1 file.now) out.old out.new result }
 {
-    let states = reader::state_count(file);
-    let later = reader::length_field(file) - 4 * states as u64;
-    let rewards = put_header(file, out, later, 1);
-    writing::put_word(out, rewards, &file[reader::HEADER + 4 * states..])
+    let bytes = file.bytes();
+    let states = file.head.state_count();
+    let later = file.head.length_field() - 4 * states as u64;
+    let mut pen = Pen { out, at: 0 };
+    put_header(&mut pen, bytes, later, 1);
+    pen.put_word(&bytes[reader::HEADER + 4 * states..]);
+    pen.at
 }
 
-// The file, which is to be of version 1, in version 2: the count of its bytes, or the number of the first row
-// that holds. Moved back, it is the file again.
-pub fn to_version_2(file: &[u8], out: &mut [u8]) -> Written
-    ensures answer { written_answer result ≡ count_of (to_version_2 file.now (length out.old)) }
+// The file, which is to be of version 1, in version 2: the count of its bytes, or the first row that holds. Moved
+// back, it is the file again.
+pub fn to_version_2(file: &[u8], out: &mut [u8]) -> Result<usize, Refusal>
+    ensures answer { answer_of result ≡ count_of (to_version_2 file.now (length out.old)) }
     ensures bytes { out.new ≡ bytes_after (to_version_2 file.now (length out.old)) out.old }
     ensures moved { ThereAndBack (to_version_2 file.now (length out.old)) file.now to_version_1 }
 {
-    let judgement = refusals::judge_file(file, 1, 1);
-    if let Judgement::Refused(k) = judgement {
-        return Written::Refused(k);
+    let model = refusals::judge_file(file, 1, 1)?;
+    if out.len() < file.len() + 4 * model.head.state_count() {
+        return Err(Refusal::Room);
     }
-    if out.len() < file.len() + 4 * reader::state_count(file) {
-        Written::Refused(13)
-    } else {
-        Written::Count(put_version_2(file, out))
-    }
+    Ok(put_version_2(&model, out))
 }
 
 // The file, which is to be of version 2 with all weight on state 1, in version 1: the count of its bytes, or the
-// number of the first row that holds. Moved back, it is the file again.
-pub fn to_version_1(file: &[u8], out: &mut [u8]) -> Written
-    ensures answer { written_answer result ≡ count_of (to_version_1 file.now (length out.old)) }
+// first row that holds. Moved back, it is the file again.
+pub fn to_version_1(file: &[u8], out: &mut [u8]) -> Result<usize, Refusal>
+    ensures answer { answer_of result ≡ count_of (to_version_1 file.now (length out.old)) }
     ensures bytes { out.new ≡ bytes_after (to_version_1 file.now (length out.old)) out.old }
     ensures moved { ThereAndBack (to_version_1 file.now (length out.old)) file.now to_version_2 }
 {
-    let judgement = refusals::judge_file(file, 2, 2);
-    if let Judgement::Refused(k) = judgement {
-        return Written::Refused(k);
+    let model = refusals::judge_file(file, 2, 2)?;
+    if weight_elsewhere(&model) {
+        return Err(Refusal::WeightElsewhere);
     }
-    // Row 17 stands before row 13.
-    let elsewhere = weight_elsewhere(file);
-    let short = out.len() < file.len() - 4 * reader::state_count(file);
-    if elsewhere {
-        return Written::Refused(17);
+    if out.len() < file.len() - 4 * model.head.state_count() {
+        return Err(Refusal::Room);
     }
-    if short {
-        return Written::Refused(13);
-    }
-    Written::Count(put_version_1(file, out))
+    Ok(put_version_1(&model, out))
 }

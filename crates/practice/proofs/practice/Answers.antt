@@ -1,7 +1,7 @@
 -- `practice` meets its contract: rows 4 and 5, then the room, then the file. Assumes nothing.
-use Rattle.std.proofs.Common.{◌≡◌, ◌*◌, ◌≤◌, length, sym, ap, ◌∙◌, mul-le-mul, arith}
+use Rattle.std.proofs.Common.{◌≡◌, ◌*◌, ◌≤◌, length, sym, ap, mul-le-mul, arith}
 use Rattle.std.proofs.lemmas.Result.{err_from_is_err_and}
-use Rattle.definitions.specs.Rules.{accepted, answer_of, dimensions, judged_by}
+use Rattle.definitions.specs.Rules.{accepted, dimensions, judged_by}
 use Rattle.laws.specs.RowLaws.{in_dimensions}
 use Rattle.laws.specs.PracticeLaws.{dealing_refused, no_room_to_deal, dealing_accepted, dealt_well}
 use Rattle.practice.proofs.practice.Goals as goal
@@ -9,7 +9,7 @@ use Rattle.practice.proofs.practice.Goals.{In_ok-judge_dimensions}
 
 -- past the rows M and R are in range
 passed : (c : In_ok-judge_dimensions) → let args = c.args in judged_by (dimensions args.states args.highest) ≡ accepted tt
-passed c = sym c.judge_dimensions.ensures ∙ ap answer_of c.in_ok-judge_dimensions.was
+passed c = sym c.in_ok-judge_dimensions.ensures
 
 inside : (c : In_ok-judge_dimensions) → let args = c.args in ((1 ≤ args.states) × (args.states ≤ 64)) × ((1 ≤ args.highest) × (args.highest ≤ 8))
 inside c = let args = c.args in in_dimensions args.states args.highest (passed c)
@@ -21,7 +21,7 @@ pub returns-in_err-judge_dimensions : goal.returns-in_err-judge_dimensions
 returns-in_err-judge_dimensions c =
     let args = c.args in
     let passed_on = err_from_is_err_and c.from_residual.result c.from_residual.ensures.1 in
-    let answer = dealing_refused args.states args.highest args.seed (length args.out.now) _ (sym c.judge_dimensions.ensures ∙ ap answer_of c.in_err-judge_dimensions.was) in
+    let answer = dealing_refused args.states args.highest args.seed (length args.out.now) _ (sym c.in_err-judge_dimensions.ensures) in
     record { answer = rw (passed_on.1, passed_on.2, answer); bytes = rw answer; dealt = dealt_well args.states args.highest args.seed (length args.out.now) }
 
 pub returns-then-out-states : goal.returns-then-out-states
