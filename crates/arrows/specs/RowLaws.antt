@@ -1,6 +1,6 @@
 -- A row is listed state by state, and with all rows stored the arrays hold the model's rows. Assumes nothing.
 use Rattle.std.specs.Prelude.{ℕ, suc, ◌+◌, ◌*◌, ◌-◌, ◌≤◌, ◌<◌, ◌≡◌, refl, Bool, true, false, ◌||◌, List, map, eqb, ltb, length, get_or, set, drop}
-use Rattle.std.proofs.Common.{mul-le-mul_right, ◌∙◌, ap, length-set, length-drop, length-take-le, get_or-take, get_or-drop, ext_get_or}
+use Rattle.std.proofs.Common.{mul-le-mul_right, ◌∙◌, ap, length-drop, length-take-le, get_or-take, get_or-drop, ext_get_or}
 use native.Mathlib.Omega.{arith}
 use Rattle.std.proofs.lemmas.List.{length-map}
 use Rattle.std.proofs.lemmas.List.Edits.{sets}
@@ -35,8 +35,6 @@ module _ (m : Model) (i first : ℕ) (targets₀ rates₀ : List ℕ) where
         count = rw (all, none) (omega arith);
         in_targets = rw (here, all) refl;
         in_rates = rw (here, all) refl;
-        same_targets = refl;
-        same_rates = refl;
       }
 
   -- down to state 0 it is the whole row, from where it has its places
@@ -52,8 +50,6 @@ module _ (m : Model) (i first : ℕ) (targets₀ rates₀ : List ℕ) where
           count = rw same at before.count;
           in_targets = rw same at before.in_targets;
           in_rates = rw same at before.in_rates;
-          same_targets = before.same_targets;
-          same_rates = before.same_rates;
         }
 
     module _ (taken : is_added m i (j - 1) ≡ true) where
@@ -68,8 +64,6 @@ module _ (m : Model) (i first : ℕ) (targets₀ rates₀ : List ℕ) where
             count = omega (arith, before.count, ap length (falling_takes (is_added m i) j some taken));
             in_targets = rw next (rw (falling_takes (is_added m i) j some taken) at before.in_targets);
             in_rates = rw (next, e) (rw (falling_takes (is_added m i) j some taken) at before.in_rates);
-            same_targets = length-set targets (first + k) (j - 1) ∙ before.same_targets;
-            same_rates = length-set rates (first + k) x ∙ before.same_rates;
           }
 
 module _ (m : Model) where

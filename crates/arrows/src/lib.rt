@@ -11,33 +11,35 @@ ghost use Rattle.definitions.specs.Sums.{over, rows_stored};
 ghost use Rattle.definitions.specs.File.{state_count};
 ghost use Rattle.definitions.specs.Chain.{model_of, row_sum, uniform_rate, c, padded, listed};
 ghost use Rattle.definitions.specs.Arrows.{added_states, ListsRows};
-ghost use Rattle.laws.specs.Acceptance.{Framed};
 ghost use Rattle.arrows.specs.Rows.{RowAsked};
+
+use reader::ModelFile;
 
 // Whether row i's mean adds state j: on the diagonal, and where the rate is above 0. The entry is c(i,j).
 fn is_added(i: usize, j: usize, entry: u64) -> bool
     ensures { result ≡ (eqb j i || ltb 0 entry) }
 {
-    if j == i {
-        return true;
-    }
-    entry > 0
+    j == i || entry > 0
 }
 
 // Row i's states and their entries, in the first of its places. Returns how many they are.
-fn list_row(file: &[u8], i: usize, diagonal: u64, targets: &mut [u8], rates: &mut [u32]) -> usize
+fn list_row(
+    file: &ModelFile,
+    i: usize,
+    diagonal: u64,
+    targets: &mut [u8],
+    rates: &mut [u32],
+) -> usize
     requires { RowAsked file.now i diagonal (length targets.old) (length rates.old) }
     ensures count { result ≡ length (added_states (model_of file.now) i) }
     ensures targets { targets.new ≡ sets targets.old (i * state_count file.now) (added_states (model_of file.now) i) }
     ensures rates { rates.new ≡ sets rates.old (i * state_count file.now) (map (c (model_of file.now) i) (added_states (model_of file.now) i)) }
 {
-    let states = reader::state_count(file);
-    let row = reader::row_of(file, i);
+    let states = file.head.state_count();
+    let row = file.row(i);
     let first = i * states;
     let mut k = 0;
-    let mut j = states;
-    while j > 0 {
-        j -= 1;
+    for j in (0..states).rev() {
         let entry = reader::entry_in(row, i, j, diagonal);
         if is_added(i, j, entry) {
             targets[first + k] = j as u8;
@@ -50,14 +52,13 @@ fn list_row(file: &[u8], i: usize, diagonal: u64, targets: &mut [u8], rates: &mu
 
 // All rows, in the places that are lent: of each the states and entries, and how many they are. The other places stay.
 pub fn list_rows(
-    file: &[u8],
+    file: &ModelFile,
     sums: &[u64; 64],
     rate: u64,
     targets: &mut [u8],
     rates: &mut [u32],
     counts: &mut [usize],
 )
-    requires framed { Framed file.now }
     requires file_in_bounds { (state_count file.now * state_count file.now ≤ length targets.old) × (state_count file.now * state_count file.now ≤ length rates.old) × (state_count file.now ≤ length counts.old) }
     requires sums_value { sums.now ≡ padded (state_count file.now) (row_sum (model_of file.now)) }
     requires rate_value { (rate ≡ uniform_rate (model_of file.now)) × (rate < 2 ^ 32) }
@@ -66,8 +67,7 @@ pub fn list_rows(
     ensures counts { counts.new ≡ over (state_count file.now) (λ i. length (added_states (model_of file.now) i)) counts.old }
     ensures shown { ListsRows (model_of file.now) (listed targets.new rates.new counts.new) }
 {
-    let states = reader::state_count(file);
-    for i in 0..states {
+    for i in 0..file.head.state_count() {
         counts[i] = list_row(file, i, rate - sums[i], targets, rates);
     }
 }

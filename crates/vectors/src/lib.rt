@@ -61,12 +61,12 @@ impl Rows<'_> {
     {
         let first = i * self.sizes.states;
         let last = first + self.counts[i];
+        let targets = &self.targets[first..last];
+        let rates = &self.rates[first..last];
         let mut total = 0;
-        for (&j, &rate) in self.targets[first..last]
-            .iter()
-            .zip(&self.rates[first..last])
-        {
-            total += u64::from(rate) * v[usize::from(j)];
+        // By number: with a `zip` of the two the heaviest file takes a third longer.
+        for (k, &j) in targets.iter().enumerate() {
+            total += u64::from(rates[k]) * v[usize::from(j)];
         }
         muldiv::divide(total, self.sizes.rate)
     }

@@ -1,119 +1,87 @@
 -- `arrows::list_rows` meets its contract: after i turns the first i rows are listed. Assumes nothing.
-use Prim.Native.Nat.{ℕ, ◌*◌, ◌≤◌}
-use mathlib.Core.Path.{◌≡◌, sym, ◌∙◌, ap}
-use mathlib.Core.List.{List}
-use native.Mathlib.Omega.{arith}
-use lib.ListN.{length, get_or}
-use lib.Seq.{sets}
-use Rattle.definitions.specs.Sums.{over, rows_stored}
-use Rattle.definitions.specs.Chain.{Model, model_of, row_sum, c, listed}
+use Rattle.std.proofs.Common.{◌≡◌, sym, ◌∙◌, ap, subst, List, ℕ, ◌*◌, ◌≤◌, ◌<◌, get_or, arith}
+use Rattle.std.proofs.lemmas.List.Edits.{sets}
+use Rattle.definitions.specs.File.{state_count}
+use Rattle.definitions.specs.Chain.{Model, model_of, row_sum}
 use Rattle.definitions.specs.Arrows.{added_states}
-use Rattle.laws.specs.ListLaws.{length_over, over_none, over_store}
+use Rattle.laws.specs.Acceptance.{Framed}
+use Rattle.laws.specs.ListLaws.{over_none, over_store}
 use Rattle.laws.specs.ChainLaws.{get_d_padded, row_sum_le_rate}
-use Rattle.laws.specs.StoredLaws.{none_stored, length_stored, stored_more}
+use Rattle.laws.specs.StoredLaws.{none_stored, stored_more}
 use Rattle.arrows.specs.RowLaws.{rows_listed, rows_shown}
 use Rattle.arrows.proofs.list_rows.Invariants.{entries, number}
 use Rattle.arrows.proofs.list_rows.Goals as goal
-use Rattle.arrows.proofs.list_rows.Goals.{After-loop-i, In-loop-i, Start}
+use Rattle.arrows.proofs.list_rows.Goals.{After-state_count-i-end, In-loop-i}
 
 pub loop-i-init : goal.loop-i-init
-loop-i-init d =
-    let m = model_of d.args.file.now in
-    (omega arith, none_stored (added_states m) m.states _, none_stored (entries m) m.states _, sym (over_none (number m) _))
+loop-i-init c =
+    let m = model_of c.args.file.now in
+    record { targets = none_stored (added_states m) m.states _; rates = none_stored (entries m) m.states _; counts = sym (over_none (number m) _) }
 
-module _ (d : In-loop-i) where
-  abbrev start : Start
-  start = (goal.at.In-loop-i d).Start
-
+-- the file is framed, and M was read
+module _ (c : After-state_count-i-end) where
   abbrev m : Model
-  m = model_of start.args.file.now
+  m = model_of c.args.file.now
+
+  framed : Framed c.args.file.now
+  framed = subst Framed c.file.view_is c.file.invariant
+
+  read : c.state_count-i-end.result ≡ m.states
+  read = c.state_count-i-end.ensures ∙ ap state_count c.file.view_is
+
+-- a turn of the loop
+module _ (c : In-loop-i) where
+  abbrev start : After-state_count-i-end
+  start = (goal.at.In-loop-i c).After-state_count-i-end
 
   abbrev i : ℕ
-  i = d.loop-i.i
+  i = c.loop-i.i
+
+  state : i < (m start).states
+  state = omega (arith, read start)
 
   -- the row's sum from the array of sums, and that E is no smaller
-  sum_at : get_or start.args.sums.now i 0 ≡ row_sum m i
-  sum_at =
-      ap (λ (l : List ℕ). get_or l i 0) start.requires.sums_value
-      ∙ get_d_padded m.states (row_sum m) i (omega (arith, start.requires.framed.states_max)) (omega arith)
+  sum_at : get_or c.args.sums.now i 0 ≡ row_sum (m start) i
+  sum_at = ap (λ (l : List ℕ). get_or l i 0) c.requires.sums_value ∙ get_d_padded (m start).states (row_sum (m start)) i (framed start).states_max state
 
-  stays : get_or start.args.sums.now i 0 ≤ start.args.rate
-  stays = omega (arith, sum_at, start.requires.rate_value.0, row_sum_le_rate m i (omega arith))
-
-  -- the arrays are as long as they were
-  targets_long : length d.loop-i.targets ≡ length start.args.targets.now
-  targets_long = ap length d.loop-i.invariant.1 ∙ length_stored (added_states m) m.states _ i
-
-  rates_long : length d.loop-i.rates ≡ length start.args.rates.now
-  rates_long = ap length d.loop-i.invariant.2 ∙ length_stored (entries m) m.states _ i
-
-  counts_long : length d.loop-i.counts ≡ length start.args.counts.now
-  counts_long = ap length d.loop-i.invariant.3 ∙ length_over i (number m) _ (omega (arith, start.requires.file_in_bounds.2))
-
-pub list_row-requires : goal.list_row-requires
-list_row-requires c =
-    record {
-      framed = (start (goal.at.list_row-requires c).In-loop-i).requires.framed;
-      state = omega arith;
-      stays = omega (arith, sum_at (goal.at.list_row-requires c).In-loop-i, (start (goal.at.list_row-requires c).In-loop-i).requires.rate_value.0);
-      stays_max = omega (arith, (start (goal.at.list_row-requires c).In-loop-i).requires.rate_value.1);
-      target_room = omega (arith, targets_long (goal.at.list_row-requires c).In-loop-i, (start (goal.at.list_row-requires c).In-loop-i).requires.file_in_bounds.0);
-      rate_room = omega (arith, rates_long (goal.at.list_row-requires c).In-loop-i, (start (goal.at.list_row-requires c).In-loop-i).requires.file_in_bounds.1);
-    }
-
-pub loop-i-preserved : goal.loop-i-preserved
-loop-i-preserved c =
-    let row = c.list_row in
-    let turn = c.loop-i in (
-      omega arith,
-      row.ensures.targets ∙ ap (λ (l : List ℕ). sets l (i (goal.at.loop-i-preserved c).In-loop-i * (m (goal.at.loop-i-preserved c).In-loop-i).states) (added_states (m (goal.at.loop-i-preserved c).In-loop-i) (i (goal.at.loop-i-preserved c).In-loop-i))) turn.invariant.1 ∙ stored_more (added_states (m (goal.at.loop-i-preserved c).In-loop-i)) (m (goal.at.loop-i-preserved c).In-loop-i).states _ (i (goal.at.loop-i-preserved c).In-loop-i),
-      row.ensures.rates ∙ ap (λ (l : List ℕ). sets l (i (goal.at.loop-i-preserved c).In-loop-i * (m (goal.at.loop-i-preserved c).In-loop-i).states) (entries (m (goal.at.loop-i-preserved c).In-loop-i) (i (goal.at.loop-i-preserved c).In-loop-i))) turn.invariant.2 ∙ stored_more (entries (m (goal.at.loop-i-preserved c).In-loop-i)) (m (goal.at.loop-i-preserved c).In-loop-i).states _ (i (goal.at.loop-i-preserved c).In-loop-i),
-      over_store (i (goal.at.loop-i-preserved c).In-loop-i) (number (m (goal.at.loop-i-preserved c).In-loop-i)) _ turn.counts _ (omega (arith, (start (goal.at.loop-i-preserved c).In-loop-i).requires.file_in_bounds.2)) turn.invariant.3 row.ensures.count,
-    )
-
--- past the loop all rows are listed
-module _ (d : After-loop-i) where
-  abbrev begin : Start
-  begin = (goal.at.After-loop-i d).Start
-
-  abbrev file : Model
-  file = model_of begin.args.file.now
-
-  all : d.loop-i.i ≡ file.states
-  all = omega arith
-
-  in_targets : d.loop-i.targets ≡ rows_stored (added_states file) file.states file.states begin.args.targets.now
-  in_targets = d.loop-i.invariant.1 ∙ ap (λ (n : ℕ). rows_stored (added_states file) file.states n begin.args.targets.now) all
-
-  in_rates : d.loop-i.rates ≡ rows_stored (entries file) file.states file.states begin.args.rates.now
-  in_rates = d.loop-i.invariant.2 ∙ ap (λ (n : ℕ). rows_stored (entries file) file.states n begin.args.rates.now) all
-
-  in_counts : d.loop-i.counts ≡ over file.states (number file) begin.args.counts.now
-  in_counts = d.loop-i.invariant.3 ∙ ap (λ (n : ℕ). over n (number file) begin.args.counts.now) all
-
-  same_targets : length d.loop-i.targets ≡ length begin.args.targets.now
-  same_targets = ap length in_targets ∙ length_stored (added_states file) file.states _ file.states
-
-pub returns : goal.returns
-returns d = record {
-  targets = in_targets d;
-  rates = in_rates d;
-  counts = in_counts d;
-  shown = rows_shown (file d) (listed d.loop-i.targets d.loop-i.rates d.loop-i.counts)
-      (rows_listed (file d) (begin d).args.targets.now (begin d).args.rates.now (begin d).args.counts.now _ _ _ (begin d).requires.file_in_bounds.0 (begin d).requires.file_in_bounds.1 (in_targets d) (in_rates d) (in_counts d));
-}
+  stays : get_or c.args.sums.now i 0 ≤ c.args.rate
+  stays = omega (arith, sum_at, c.requires.rate_value.0, row_sum_le_rate (m start) i state)
 
 pub overflow_sub-rate : goal.overflow_sub-rate
 overflow_sub-rate c = stays (goal.at.overflow_sub-rate c).In-loop-i
 
-pub bounds-counts-i : goal.bounds-counts-i
-bounds-counts-i c = omega (arith, counts_long (goal.at.bounds-counts-i c).In-loop-i, (start (goal.at.bounds-counts-i c).In-loop-i).requires.file_in_bounds.2)
+pub list_row-requires : goal.list_row-requires
+list_row-requires c =
+    let turn = (goal.at.list_row-requires c).In-loop-i in
+    record {
+      state = state turn;
+      stays = omega (arith, sum_at turn, c.requires.rate_value.0);
+      stays_max = omega (arith, c.requires.rate_value.1);
+      target_room = omega (arith, c.requires.file_in_bounds.0);
+      rate_room = omega (arith, c.requires.file_in_bounds.1);
+    }
 
-pub shape_of-targets : goal.shape_of-targets
-shape_of-targets c = same_targets c
+pub loop-i-preserved : goal.loop-i-preserved
+loop-i-preserved c =
+    let m = m (goal.at.loop-i-preserved c).After-state_count-i-end in
+    let turn = (goal.at.loop-i-preserved c).In-loop-i in
+    record {
+      targets = c.list_row.ensures.targets ∙ ap (λ (l : List ℕ). sets l (i turn * m.states) (added_states m (i turn))) c.loop-i.invariant.targets ∙ stored_more (added_states m) m.states _ (i turn);
+      rates = c.list_row.ensures.rates ∙ ap (λ (l : List ℕ). sets l (i turn * m.states) (entries m (i turn))) c.loop-i.invariant.rates ∙ stored_more (entries m) m.states _ (i turn);
+      counts = over_store (i turn) (number m) _ c.loop-i.counts _ (omega (arith, state turn, c.requires.file_in_bounds.2)) c.loop-i.invariant.counts c.list_row.ensures.count;
+    }
 
-pub shape_of-rates : goal.shape_of-rates
-shape_of-rates c = ap length (in_rates c) ∙ length_stored (entries (file c)) (file c).states _ (file c).states
-
-pub shape_of-counts : goal.shape_of-counts
-shape_of-counts c = ap length (in_counts c) ∙ length_over (file c).states (number (file c)) _ (begin c).requires.file_in_bounds.2
+pub returns : goal.returns
+returns c =
+    let begun = (goal.at.returns c).After-state_count-i-end in
+    let m = m begun in
+    let all : c.loop-i.i ≡ m.states = omega (arith, read begun) in
+    let targets = rw all at c.loop-i.invariant.targets in
+    let rates = rw all at c.loop-i.invariant.rates in
+    let counts = rw all at c.loop-i.invariant.counts in
+    record {
+      targets = targets;
+      rates = rates;
+      counts = counts;
+      shown = rows_shown m _ (rows_listed m c.args.targets.now c.args.rates.now c.args.counts.now _ _ _ c.requires.file_in_bounds.0 c.requires.file_in_bounds.1 targets rates counts);
+    }

@@ -1,7 +1,4 @@
-use Prim.Native.Nat.{ℕ, ◌-◌, ◌≤◌}
-use mathlib.Core.Path.{◌≡◌}
-use mathlib.Core.List.{List, map}
-use lib.ListN.{length}
+use Rattle.std.proofs.Common.{◌≡◌, List, ℕ, map, length}
 use Rattle.definitions.specs.Sums.{over, rows_stored}
 use Rattle.definitions.specs.File.{state_count}
 use Rattle.definitions.specs.Chain.{Model, model_of, c}
@@ -16,10 +13,8 @@ abbrev pub number : Model → ℕ → ℕ
 number m i = length (added_states m i)
 
 abbrev pub invariant-loop-i : goal.invariant-loop-i
-invariant-loop-i l = (l.i ≤ l.states)
-    × (l.targets ≡ rows_stored (added_states (model_of l.file)) (state_count l.file) l.i l.initial.targets)
-    × (l.rates ≡ rows_stored (entries (model_of l.file)) (state_count l.file) l.i l.initial.rates)
-    × (l.counts ≡ over l.i (number (model_of l.file)) l.initial.counts)
-
-abbrev pub decreases-loop-i : goal.decreases-loop-i
-decreases-loop-i l = l.states - l.i
+invariant-loop-i l = record {
+  targets : l.targets ≡ rows_stored (added_states (model_of l.file)) (state_count l.file) l.i l.initial.targets;
+  rates : l.rates ≡ rows_stored (entries (model_of l.file)) (state_count l.file) l.i l.initial.rates;
+  counts : l.counts ≡ over l.i (number (model_of l.file)) l.initial.counts;
+}

@@ -1,5 +1,5 @@
 -- `vectors::LentChain::table_at` meets its contract: past the loop the table is that of n. Assumes nothing.
-use Rattle.std.proofs.Common.{◌≡◌, ◌+◌, ◌-◌, arith}
+use Rattle.std.proofs.Common.{◌≡◌, ◌-◌, arith}
 use Rattle.vectors.proofs.LentChain.table_at.Goals as goal
 
 pub returns : goal.returns
