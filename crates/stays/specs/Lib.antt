@@ -1,5 +1,8 @@
 -- What a record of stays keeps, what is claimed of each call, and that it holds.
-pub mod Kept
+pub mod Latest
+pub mod Ring
+pub mod Inner
 pub mod Claims
-pub mod KeptLaws
+pub mod LatestLaws
+pub mod RingLaws
 pub mod ReachedLaws

@@ -1,17 +1,20 @@
 // Rates from a workshop log (document 02, S-12): a record of the latest stays, with the count of each pair of states and the hours in each state.
 //
-// A record goes in by value, and the next one comes back. Its fields are closed to other crates, so that every record comes from `start` through
-// `stay`, taken or refused: that is what `Reached` asks of a caller.
+// What a record has come to is said by the stays offered to it (`Comes`), and holds of every record: its fields are closed to other crates, and each
+// record keeps its last stays with their tally (`Keeps`).
 #![tactic(auto)]
 
-ghost use Rattle.std.specs.Prelude.{◌≡◌, ◌<◌, ◌≤◌};
-ghost use Rattle.definitions.specs.Rules.{verdict, judged_by};
+ghost use Rattle.std.specs.Prelude.{◌≡◌, ◌+◌, ◌*◌, ◌-◌, ◌<◌, ◌≤◌, length, eqb};
+ghost use Rattle.definitions.specs.Sums.{pick};
+ghost use Rattle.definitions.specs.Rules.{answer_of, judged_by};
 ghost use Rattle.definitions.specs.Stays.{stay_of, no_pair, start_rows, pair_rows, stay_rows, rate_of};
 ghost use Rattle.laws.specs.StayLaws.{Fine};
-ghost use Rattle.stays.specs.Kept.{Holding, Room, following, empty, left, entered, pushed};
-ghost use Rattle.stays.specs.Claims.{Reached, StartClaim, StayClaim, RateClaim};
+ghost use Rattle.stays.specs.Latest.{empty, left, entered, pushed};
+ghost use Rattle.stays.specs.Ring.{following, stay_in};
+ghost use Rattle.stays.specs.Claims.{StartClaim, StayClaim, RateClaim};
 
-use definitions::{Judgement, Reading};
+use definitions::Refusal;
+use std::marker::Model;
 
 // The largest window size, and the most hours of a stay.
 
@@ -19,26 +22,140 @@ const MOST_WINDOW: u64 = 256;
 
 const MOST_HOURS: u64 = 10_000;
 
-// M and the window size, as the start fixed them; a ring, of which the first `window` places are used: the place of the next stay, how many are kept, and of
-// each its states and hours; the count of i to j at i * 64 + j - 65, and the hours in i at i - 1.
+// A stay as the ring keeps it.
+#[derive(Clone, Copy)]
+struct Kept {
+    from: u8,
+    to: u8,
+    span: u16,
+}
+
+// M and the window size, as the start fixed them; a ring, of which the first `window` places are used: the place of the next stay, how many are kept, and
+// the stays; the count of i to j at i * 64 + j - 65, and the hours in i at i - 1.
 #[derive(Drop)]
 pub struct Record {
     states: u64,
     window: usize,
     next: usize,
     kept: usize,
-    from: [u8; 256],
-    to: [u8; 256],
-    spans: [u16; 256],
+    places: [Kept; 256],
     counts: [u16; 4096],
     hours: [u32; 64],
 }
 
-// What a start or a stay is answered, beside the record as it is then.
-#[derive(Drop)]
-pub struct Told {
-    pub answer: Judgement,
-    pub latest: Record,
+// A caller sees the last stays accepted, and their tally.
+impl Model for Record {
+    ghost use Rattle.stays.specs.Latest.{Latest};
+
+    ghost Value = { Latest };
+
+    ghost use Rattle.stays.specs.Inner.{latest_in, Sound};
+
+    ghost view = { latest_in };
+
+    ghost invariant = { Sound };
+}
+
+impl Record {
+    // Starts a record with M states and a window size.
+    pub fn start(states: u64, window: u64) -> Result<Record, Refusal>
+        ensures { StartClaim states window result }
+    {
+        judge_start(states, window)?;
+        Ok(Record::empty(states, window as usize))
+    }
+
+    // Offers a stay to the record. One that is refused alters nothing.
+    pub fn stay(&mut self, from: u64, to: u64, hours: u64) -> Result<(), Refusal>
+        ensures { StayClaim self.old (stay_of from to hours) result self.new }
+    {
+        judge_stay(self.states, from, to, hours)?;
+        self.push(Kept {
+            from: from as u8,
+            to: to as u8,
+            span: hours as u16,
+        });
+        Ok(())
+    }
+
+    // Reads the rate from one state to another, in millionths per hour.
+    pub fn rate(&self, from: u64, to: u64) -> Result<u32, Refusal>
+        ensures { RateClaim self.now from to result }
+    {
+        judge_pair(self.states, from, to)?;
+        let i = from as usize;
+        let j = to as usize;
+        let count = self.counts[cell_of(i, j)];
+        let hours = self.hours[i - 1];
+        Ok(rate_of(count, hours))
+    }
+
+    // A record that no stay was offered to.
+    fn empty(states: u64, window: usize) -> Record
+        requires { (1 ≤ states) × (states ≤ 64) × (1 ≤ window) × (window ≤ 256) }
+        ensures { result ≡ empty states window }
+    {
+        let none = Kept {
+            from: 0,
+            to: 0,
+            span: 0,
+        };
+        Record {
+            states,
+            window,
+            next: 0,
+            kept: 0,
+            places: [none; 256],
+            counts: [0; 4096],
+            hours: [0; 64],
+        }
+    }
+
+    // An accepted stay: the oldest leaves only as it enters a full window.
+    fn push(&mut self, stay: Kept)
+        requires { Fine self.old.states (stay_in stay) }
+        ensures { self.new ≡ pushed self.old (stay_in stay) }
+    {
+        self.make_room();
+        self.enter(stay);
+    }
+
+    // The oldest stay leaves a full window.
+    fn make_room(&mut self)
+        ensures room { length self.new.stays < self.new.window }
+        ensures latest { self.new ≡ pick (eqb (length self.old.stays) self.old.window) (left self.old) self.old }
+    {
+        if self.kept == self.window {
+            self.leave();
+        }
+    }
+
+    // The oldest stay of a full window leaves: it stands where the next one goes.
+    fn leave(&mut self)
+        requires { length self.old.stays ≡ self.old.window }
+        ensures { self.new ≡ left self.old }
+    {
+        let oldest = self.places[self.next];
+        let i = usize::from(oldest.from);
+        let j = usize::from(oldest.to);
+        self.kept -= 1;
+        self.counts[cell_of(i, j)] -= 1;
+        self.hours[i - 1] -= u32::from(oldest.span);
+    }
+
+    // A stay enters a window that has room.
+    fn enter(&mut self, stay: Kept)
+        requires { (length self.old.stays < self.old.window) × Fine self.old.states (stay_in stay) }
+        ensures { self.new ≡ entered self.old (stay_in stay) }
+    {
+        let i = usize::from(stay.from);
+        let j = usize::from(stay.to);
+        self.places[self.next] = stay;
+        self.next = following(self.window, self.next);
+        self.kept += 1;
+        self.counts[cell_of(i, j)] += 1;
+        self.hours[i - 1] += u32::from(stay.span);
+    }
 }
 
 // The place after a place of a ring.
@@ -49,55 +166,12 @@ fn following(window: usize, at: usize) -> usize
     if at + 1 == window { 0 } else { at + 1 }
 }
 
-// The oldest stay leaves a full window: it stands where the next one goes.
-fn leave(latest: Record) -> Record
-    requires { Holding latest × (latest.kept ≡ latest.window) }
-    ensures { result ≡ left latest }
+// Where the count of i to j stands.
+fn cell_of(i: usize, j: usize) -> usize
+    requires { (1 ≤ i) × (i ≤ 64) × (1 ≤ j) × (j ≤ 64) }
+    ensures { (result ≡ i * 64 + j - 65) × (result < 4096) }
 {
-    let mut r = latest;
-    let at = r.next;
-    let i = r.from[at] as usize;
-    let j = r.to[at] as usize;
-    let span = r.spans[at] as u32;
-    let place = i * 64 + j - 65;
-    r.kept -= 1;
-    r.counts[place] -= 1;
-    r.hours[i - 1] -= span;
-    r
-}
-
-// A stay enters a window that has room.
-fn enter(latest: Record, i: usize, j: usize, span: u16) -> Record
-    requires { Room latest × Fine latest.states (stay_of i j span) }
-    ensures { result ≡ entered latest (stay_of i j span) }
-{
-    let mut r = latest;
-    let at = r.next;
-    let window = r.window;
-    let place = i * 64 + j - 65;
-    let next = following(window, at);
-    r.next = next;
-    r.kept += 1;
-    r.from[at] = i as u8;
-    r.to[at] = j as u8;
-    r.spans[at] = span;
-    r.counts[place] += 1;
-    r.hours[i - 1] += span as u32;
-    r
-}
-
-// An accepted stay: the oldest leaves only as it enters a full window.
-fn push(latest: Record, i: usize, j: usize, span: u16) -> Record
-    requires { Holding latest × Fine latest.states (stay_of i j span) }
-    ensures { result ≡ pushed latest (stay_of i j span) }
-{
-    let kept = latest.kept;
-    let window = latest.window;
-    if kept == window {
-        let r = leave(latest);
-        return enter(r, i, j, span);
-    }
-    enter(latest, i, j, span)
+    i * 64 + j - 65
 }
 
 // Whether a state is outside 1 to M, or both are the same.
@@ -108,102 +182,35 @@ fn no_pair(states: u64, i: u64, j: u64) -> bool
 }
 
 // Row 20.
-fn judge_pair(states: u64, i: u64, j: u64) -> Judgement
-    ensures { verdict result ≡ judged_by (pair_rows states i j) }
+fn judge_pair(states: u64, i: u64, j: u64) -> Result<(), Refusal>
+    ensures { answer_of result ≡ judged_by (pair_rows states i j) }
 {
     if no_pair(states, i, j) {
-        return Judgement::Refused(20);
+        return Err(Refusal::Pair);
     }
-    Judgement::Accepted
+    Ok(())
 }
 
 // Row 20, then row 21.
-fn judge_stay(states: u64, i: u64, j: u64, hours: u64) -> Judgement
-    ensures { verdict result ≡ judged_by (stay_rows states (stay_of i j hours)) }
+fn judge_stay(states: u64, i: u64, j: u64, hours: u64) -> Result<(), Refusal>
+    ensures { answer_of result ≡ judged_by (stay_rows states (stay_of i j hours)) }
 {
-    let pair = judge_pair(states, i, j);
-    if let Judgement::Refused(k) = pair {
-        return Judgement::Refused(k);
-    }
+    judge_pair(states, i, j)?;
     if refusals::outside(1, MOST_HOURS, hours) {
-        return Judgement::Refused(21);
+        return Err(Refusal::Hours);
     }
-    Judgement::Accepted
+    Ok(())
 }
 
 // Row 4, then row 22.
-pub fn judge_start(states: u64, window: u64) -> Judgement
-    ensures { verdict result ≡ judged_by (start_rows states window) }
+pub fn judge_start(states: u64, window: u64) -> Result<(), Refusal>
+    ensures { answer_of result ≡ judged_by (start_rows states window) }
 {
-    let row = refusals::judge_states(states);
-    if let Judgement::Refused(k) = row {
-        return Judgement::Refused(k);
-    }
+    refusals::judge_states(states)?;
     if refusals::outside(1, MOST_WINDOW, window) {
-        return Judgement::Refused(22);
+        return Err(Refusal::Window);
     }
-    Judgement::Accepted
-}
-
-// A record that no stay was offered to.
-fn fresh(states: u64, window: usize) -> Record
-    ensures { result ≡ empty states window }
-{
-    let from = [0u8; 256];
-    let to = [0u8; 256];
-    let spans = [0u16; 256];
-    let counts = [0u16; 4096];
-    let hours = [0u32; 64];
-    Record {
-        states,
-        window,
-        next: 0,
-        kept: 0,
-        from,
-        to,
-        spans,
-        counts,
-        hours,
-    }
-}
-
-// Starts a record with M states and a window size. A refused start gives the record of one state, which takes no stay.
-pub fn start(states: u64, window: u64) -> Told
-    ensures { StartClaim states window result.answer result.latest }
-{
-    let answer = judge_start(states, window);
-    if let Judgement::Refused(k) = answer {
-        let none = fresh(1, 1);
-        return Told {
-            answer: Judgement::Refused(k),
-            latest: none,
-        };
-    }
-    let latest = fresh(states, window as usize);
-    Told {
-        answer: Judgement::Accepted,
-        latest,
-    }
-}
-
-// Offers a stay to a record. One that is refused alters nothing.
-pub fn stay(latest: Record, from: u64, to: u64, hours: u64) -> Told
-    requires { Reached latest }
-    ensures { StayClaim latest (stay_of from to hours) result.answer result.latest }
-{
-    let states = latest.states;
-    let answer = judge_stay(states, from, to, hours);
-    if let Judgement::Refused(k) = answer {
-        return Told {
-            answer: Judgement::Refused(k),
-            latest,
-        };
-    }
-    let next = push(latest, from as usize, to as usize, hours as u16);
-    Told {
-        answer: Judgement::Accepted,
-        latest: next,
-    }
+    Ok(())
 }
 
 // The count times 1,000,000 over the hours, down, or 0 where there are no hours.
@@ -214,22 +221,5 @@ fn rate_of(count: u16, hours: u32) -> u32
     if hours == 0 {
         return 0;
     }
-    (count as u64 * 1_000_000 / hours as u64) as u32
-}
-
-// Reads the rate from one state to another, in millionths per hour.
-pub fn rate(latest: Record, from: u64, to: u64) -> Reading
-    requires { Reached latest }
-    ensures { RateClaim latest from to result }
-{
-    let states = latest.states;
-    let pair = judge_pair(states, from, to);
-    if let Judgement::Refused(k) = pair {
-        return Reading::Refused(k);
-    }
-    let place = (from * 64 + to - 65) as usize;
-    let before = (from - 1) as usize;
-    let count = latest.counts[place];
-    let hours = latest.hours[before];
-    Reading::Rate(rate_of(count, hours))
+    (u64::from(count) * 1_000_000 / u64::from(hours)) as u32
 }

@@ -1,5 +1,5 @@
 -- `stays::judge_pair` meets its contract: row 20. Assumes nothing.
-use mathlib.Core.Path.{◌∙◌, sym}
+use Rattle.std.proofs.Common.{sym, ◌∙◌}
 use Rattle.laws.specs.RuleLaws.{row_stops, row_passes, none_left}
 use Rattle.stays.proofs.judge_pair.Goals as goal
 
