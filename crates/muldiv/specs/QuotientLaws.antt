@@ -47,13 +47,6 @@ pub divided_into : (a b c : ℕ) → Scalable a b c → divided_of a b c ≡ Som
 divided_into a b c s =
     rw (in_range a b c s.divisor s.a_small s.b_small s.c_small, fitted_small (a * b / c) (a * b % c) s.fits)
 
--- then there is a number
-pub never_none : (a b c : ℕ) → Scalable a b c → divided_of a b c ≡ None → ⊥
-never_none a b c s e =
-    let made : divided_of a b c ≡ Some (division (a * b) c) = divided_into a b c s in
-    let z : ◌≡◌ {A = ℕ} 0 1 = cc in
-    omega arith
-
 -- where b is at most c the quotient is at most a, and fits
 pub scalable_part : (a b c : ℕ) → 0 < c → a < 2 ^ 62 → b ≤ c → c < 2 ^ 62 → Scalable a b c
 scalable_part a b c pos ha hb hc =

@@ -1,5 +1,5 @@
 -- `stays::Record::start` meets its contract. Assumes nothing.
-use Rattle.std.proofs.Common.{sym}
+use Rattle.std.proofs.Common.{sym, arith}
 use Rattle.std.proofs.lemmas.Result.{err_from_is_err_and}
 use Rattle.stays.specs.ReachedLaws.{start_fits, start_refused, start_accepted}
 use Rattle.stays.proofs.Record.start.Goals as goal
@@ -12,7 +12,7 @@ returns-in_err-judge_start c =
 pub empty-requires : goal.empty-requires
 empty-requires c =
     let fits = start_fits c.args.states c.args.window (sym c.in_ok-judge_start.ensures) in
-    (fits.states_low, fits.states_max, fits.window_low, fits.window_max)
+    (omega arith, omega arith, omega arith, omega arith)
 
 pub returns : goal.returns
 returns c = start_accepted c.args.states c.args.window _ c.in_ok-judge_start.ensures c.empty.ensures
