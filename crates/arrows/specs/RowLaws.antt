@@ -2,12 +2,12 @@
 use Rattle.std.specs.Prelude.{ℕ, suc, ◌+◌, ◌*◌, ◌-◌, ◌≤◌, ◌<◌, ◌≡◌, refl, Bool, true, false, ◌||◌, List, map, eqb, ltb, length, get_or, set, drop}
 use Rattle.std.proofs.Common.{mul-le-mul_right, ◌∙◌, ap, length-drop, length-take-le, get_or-take, get_or-drop, ext_get_or}
 use native.Mathlib.Omega.{arith}
-use Rattle.std.proofs.lemmas.List.{length-map}
+use Rattle.std.proofs.lemmas.List.{length-map, get_or-map}
 use Rattle.std.proofs.lemmas.List.Edits.{sets}
 use Rattle.definitions.specs.Sums.{over, rows_stored, pick}
 use Rattle.definitions.specs.Chain.{Model, Listing, row_sum, uniform_rate, c, listed}
 use Rattle.definitions.specs.Arrows.{falling, is_added, added_states, states_in, ListsRows}
-use Rattle.laws.specs.ListLaws.{get_d_map, get_d_over}
+use Rattle.laws.specs.ListLaws.{get_d_over}
 use Rattle.laws.specs.StoredLaws.{length_stored, get_d_stored}
 use Rattle.laws.specs.ArrowLaws.{falling_takes, falling_leaves, length_falling, HoldsRows}
 use Rattle.laws.proofs.ArrowLaws.{row_listed}
@@ -89,7 +89,7 @@ module _ (m : Model) where
             λ i p l b.
             ap (λ (x : List ℕ). get_or x (i * m.states + p) 0) er
             ∙ get_d_stored entries m.states rates m.states (λ i l. entries_fit i) i p rroom l (omega (arith, b, length-map (added_states m i) (c m i)))
-            ∙ get_d_map (c m i) (added_states m i) p 0 0 b;
+            ∙ get_or-map (c m i) (added_states m i) p 0 0 b;
       }
 
   -- and each of them is shown to be what document 02 asks for

@@ -1,12 +1,8 @@
 -- The distance of a weighted mean from the exact average, for any X that passes the level's test at N, any sequence of ticks U(n) that
 -- stays near its exact values u(n), and any last quotient P that is within one tick.
-use Prim.Native.Nat.{ℕ, zero, suc, ◌+◌, ◌*◌, ◌-◌, ◌/◌, ◌≤◌, ◌<◌}
-use native.Mathlib.Omega.{arith}
-use Rattle.std.proofs.Math.Nat.{mul-le-mul_left, le_of_mul-le-mul_left, sub_self}
-use Rattle.std.proofs.Common.{mul-le-mul_right, le_of_mul-le-mul_right, le_refl, mul-pos, ◌∙◌, le-leb}
-use Rattle.std.proofs.Math.Decide.{dec_le}
-use Rattle.std.specs.Prelude.{◌≡◌, leb}
-use Rattle.std.proofs.Math.Path.{ap}
+use Rattle.std.specs.Prelude.{ℕ, suc, ◌+◌, ◌*◌, ◌-◌, ◌/◌, ◌≤◌, ◌<◌, ◌≡◌, leb}
+use Rattle.std.proofs.Common.{arith, mul-le-mul_left, mul-le-mul_right, le_of_mul-le-mul_right, le_refl, mul-pos, ◌∙◌, le-leb, ap}
+use Rattle.std.proofs.Math.Nat.{le_of_mul-le-mul_left, sub_self, pos_of_dvd_of_pos, dvd-mul_right}
 use Rattle.std.proofs.lemmas.Bool.{lt-leb}
 use Rattle.definitions.specs.Sums.{sum, pick}
 use Rattle.definitions.specs.Vectors.{ONE}
@@ -105,8 +101,7 @@ module _ (X N L : ℕ) (X_pos : 0 < X) (mode_in : mode X ≤ N) (past : N ≤ L)
         omega (arith, each, sum_plus (suc N) (λ n. weight X n * U n / ONE * ONE) (λ n. ONE), sum_times (suc N) ONE (λ n. weight X n * U n / ONE), sum_constant (suc N) ONE)
 
 factor_pos : (a b : ℕ) → 0 < a * b → 0 < a
-factor_pos zero b h = omega arith
-factor_pos (suc a) b h = omega arith
+factor_pos a b h = pos_of_dvd_of_pos (dvd-mul_right a b) h
 
 -- the whole-number cores, with names of their own for the sums: G·x is x scaled by 10^15
 
@@ -114,10 +109,10 @@ greatest_pos : 0 < GREATEST
 greatest_pos = omega arith
 
 room_above : (N er S : ℕ) → N + 1 ≤ 1000 → er ≤ (N + 1) * N → GREATEST ≤ S → (N + 1) * ONE + er * ONE ≤ (N + 2) * S
-room_above N er S small h big = omega (arith, mul-le-mul_left (N + 1) small, mul-le-mul_left (N + 2) big)
+room_above N er S small h big = grind arith
 
 room_below : (N er S : ℕ) → N + 1 ≤ 1000 → er ≤ (N + 1) * N → GREATEST ≤ S → er * ONE ≤ N * S
-room_below N er S small h big = omega (arith, mul-le-mul_right N small, mul-le-mul_left N big)
+room_below N er S small h big = grind arith
 
 upper_core : (zU wU er zm ZN S A P N : ℕ) → GREATEST * zU ≤ (wU + er * ONE) * zm → wU ≤ A * ONE + (N + 1) * ONE → A * ONE ≤ P * S + S → (N + 1) * ONE + er * ONE ≤ (N + 2) * S → S * zm ≤ GREATEST * ZN → zU ≤ (P + N + 3) * ZN
 upper_core zU wU er zm ZN S A P N products terms last room weights =
@@ -240,19 +235,11 @@ module _ (X ε N r : ℕ) (U : ℕ → ℕ) (u : ℕ → Fraction) (P : ℕ) (g 
 
   low_each : (n : ℕ) → Low (at_least n) ONE (u n)
   unfolding at_least
-  low_each n = from (dec_le n N)
-    where
-      from : Dec (n ≤ N) → Low (pick (leb n N) (U n) 0) ONE (u n)
-      from (yes l) = rw (le-leb n N l) (g.near n).low
-      from (no l) = rw (lt-leb n N (omega (arith, l))) (record { low = omega arith })
+  low_each n = grind arith
 
   high_each : (n : ℕ) → High (at_most n) ONE (u n)
   unfolding at_most
-  high_each n = from (dec_le n N)
-    where
-      from : Dec (n ≤ N) → High (pick (leb n N) (U n + 2 * (n + r)) ONE) ONE (u n)
-      from (yes l) = rw (le-leb n N l) (g.near n).high
-      from (no l) = rw (lt-leb n N (omega (arith, l))) (record { high = omega (arith, (g.near n).top.high) })
+  high_each n = grind arith
 
   average_low : Low (sum (suc L) (λ n. z X L n * at_least n)) (ONE * sum (suc L) (z X L)) (average_of X u L)
   unfolding average_of

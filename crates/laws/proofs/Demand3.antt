@@ -1,8 +1,6 @@
 -- Demand 3, of the definitions: for every accepted file the figures at the level satisfy Promise.
-use Prim.Native.Nat.{ℕ, ◌+◌, ◌*◌, ◌≤◌, ◌<◌}
-use native.Mathlib.Omega.{arith}
-use Rattle.std.proofs.Common.{le_refl}
-use Rattle.std.specs.Prelude.{◌≡◌, List, length}
+use Rattle.std.specs.Prelude.{ℕ, ◌+◌, ◌*◌, ◌≤◌, ◌<◌, ◌≡◌, List, length}
+use Rattle.std.proofs.Common.{arith, le_refl}
 use Rattle.definitions.specs.Chain.{Model, model_of, jump_millionths, chain_of}
 use Rattle.definitions.specs.Rules.{accepted, judgement}
 use Rattle.definitions.specs.Vectors.{ONE, U}

@@ -1,5 +1,5 @@
 -- Document 02, S-9: the moment for r + 1 is at most that for r. Of every model, at every level.
-use Prim.Native.Nat.{ℕ, suc, ◌≤◌, ◌<◌}
+use Rattle.std.specs.Prelude.{ℕ, suc, ◌≤◌, ◌<◌}
 use Rattle.std.proofs.Common.{arith}
 use Rattle.definitions.specs.Chain.{Model, jump_millionths, chain_of}
 use Rattle.definitions.specs.Vectors.{U}

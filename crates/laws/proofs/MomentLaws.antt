@@ -1,5 +1,5 @@
 -- A model's last quotients are within one tick, and its level is within its bounds.
-use Rattle.std.specs.Prelude.{ℕ, ◌*◌, ◌≤◌, ◌<◌}
+use Rattle.std.specs.Prelude.{ℕ, ◌≤◌}
 use Rattle.std.proofs.Common.{arith}
 use Rattle.definitions.specs.Chain.{Model, jump_millionths}
 use Rattle.definitions.specs.Vectors.{ONE}
@@ -17,23 +17,12 @@ use Rattle.laws.specs.MomentLaws.{weighted_max, last_max}
 -- it is within one tick and in [0, 1]
 pub last_within : (X N : ℕ) (u : ℕ → ℕ) → mode X ≤ N → ((n : ℕ) → n ≤ N → u n ≤ ONE) → LastQuotient (weighted X u N) (weight_sum X N) (weighted_mean X u N)
 unfolding weighted_mean last_quotient
-last_within X N u reached h =
-    let A : ℕ = weighted X u N in
-    let S : ℕ = weight_sum X N in
-    let pos : 0 < S = omega (arith, weight_sum_min X N reached) in
-    let half = nearest_within (A * ONE) S pos in
-    record {
-      low = omega (arith, half.above);
-      high = omega (arith, half.below);
-      top = last_max A S pos (weighted_max X N u h);
-    }
+last_within X N u reached h = grind (arith, weight_sum_min, nearest_within, last_max, weighted_max)
 
 -- the level of a model within its limits is 1 to 563
 pub level_range : (m : Model) → WithinLimits m → (1 ≤ model_level m) × (model_level m ≤ 563)
 unfolding model_level
-level_range m g =
-    let X : ℕ = jump_millionths m in
-    (omega (arith, (level_is X m.tolerance g.jumps_max g.tolerance_pos).passes.past, g.jumps_pos), omega (arith, level_max X m.tolerance g.jumps_max g.tolerance_pos))
+level_range m g = grind (arith, level_is, level_max)
 
 -- and at most 2m + 51
 pub level_bounded : (m : Model) → WithinLimits m → model_level m ≤ last_level (jump_millionths m)

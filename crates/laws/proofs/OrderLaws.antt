@@ -1,10 +1,8 @@
 -- Document 02, S-9: no start figure rises with r, and no row of a block; and a model with no lower reward rates, the largest being the same, has no lower figures.
 -- Of every model, at every level.
-use Prim.Native.Nat.{ℕ, suc, ◌+◌, ◌-◌, ◌/◌, ◌%◌, ◌≤◌, ◌<◌}
-use Rattle.std.proofs.Common.{arith, le_refl, add-one, sym, ◌∙◌}
+use Rattle.std.specs.Prelude.{ℕ, suc, ◌+◌, ◌-◌, ◌/◌, ◌%◌, ◌≤◌, ◌<◌, ◌≡◌, List, length, get_or}
+use Rattle.std.proofs.Common.{arith, le_refl, add-one, sym, ◌∙◌, ap}
 use Rattle.std.proofs.Math.Decide.{dec_lt}
-use Rattle.std.specs.Prelude.{◌≡◌, List, length, get_or}
-use Rattle.std.proofs.Math.Path.{ap}
 use Rattle.definitions.specs.declared.Run.{Run}
 use Rattle.definitions.specs.Chain.{Model, model_of, max_reward, jump_millionths, chain_of, at_reward, block_of}
 use Rattle.definitions.specs.Rules.{accepted, block_size}
@@ -27,11 +25,7 @@ start_falls m N r = mean_mono m.states m.start m.start _ _ (λ i l. le_refl (m.s
 
 -- so in every row of a block
 pub figure_falls : (m : Model) (N r i : ℕ) → figure_of m N (suc r) i ≤ figure_of m N r i
-figure_falls m N r i =
-    elim (dec_lt i m.states) [
-      | yes l ↦ rw (figure_of_state m N (suc r) i l, figure_of_state m N r i l) (moment_falls m N r i l)
-      | no h ↦ rw (figure_of_start m N (suc r) i (omega (arith, h)), figure_of_start m N r i (omega (arith, h))) (start_falls m N r)
-    ]
+figure_falls m N r i = grind (arith, figure_of_state, moment_falls, figure_of_start, start_falls)
 
 -- so in cells that hold the figures of a block
 no_rise : (m : Model) (N : ℕ) (cells : List ℕ) → ((i r : ℕ) → i < m.states + m.distributions → 1 ≤ r → r ≤ m.highest → get_or cells (cell_of m i r) 0 ≡ figure_of m N r i) → NoRise m cells
@@ -54,14 +48,7 @@ no_block_rises s times cells n k h = no_rise (model_at s times k) (level_at s ti
 
 module _ (a b : Model) (e : RaisedModel a b) where
   raised_chain : Raised (chain_of a) (chain_of b)
-  raised_chain =
-      record {
-        states = e.states;
-        rate = rate_kept a b e;
-        largest_reward = largest_kept a b e;
-        entry = λ i j li lj. omega (arith, entry_kept a b e i j li lj);
-        reward = e.no_lower;
-      }
+  raised_chain = grind (arith, rate_kept, largest_kept, entry_kept)
 
   -- no moment is lower, whatever the level
   pub moment_no_lower : (N r i : ℕ) → i < a.states → moment a N r i ≤ moment b N r i

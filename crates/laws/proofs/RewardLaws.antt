@@ -1,11 +1,10 @@
 -- Document 02, S-9, of files: with one reward rate raised, but not past the largest, a file is answered the same, and no cell is left lower; for its own time
 -- and for a list of times.
-use Rattle.std.specs.Prelude.{ℕ, ◌+◌, ◌*◌, ◌-◌, ◌≤◌, ◌<◌, ◌^◌, ◌≡◌, not, List, [], ◌++◌, length, get_or, ltb, eqb}
-use Rattle.std.proofs.Common.{arith, mul-le-mul_right, ◌∙◌}
+use Rattle.std.specs.Prelude.{ℕ, ◌+◌, ◌*◌, ◌-◌, ◌≤◌, ◌<◌, ◌^◌, ◌≡◌, List, [], ◌++◌, length, get_or, ltb, refl}
+use Rattle.std.proofs.Common.{arith, mul-le-mul_right, ◌∙◌, sym, ap, ap₂}
 use Rattle.std.proofs.Math.Decide.{dec_lt, ℕ_discrete}
-use Rattle.std.proofs.Math.Path.{refl, sym, ap, ap₂}
 use Rattle.definitions.specs.declared.Run.{Run}
-use Rattle.definitions.specs.Sums.{sum, largest, any_above}
+use Rattle.definitions.specs.Sums.{largest, any_above}
 use Rattle.definitions.specs.Bytes.{big, bytes_of}
 use Rattle.definitions.specs.File.{state_count, distributions, weight_field, rewards_at, reward_field, with_reward, place, row_at, rate_field}
 use Rattle.definitions.specs.Chain.{Model, model_of, row_sum, max_reward}
@@ -20,7 +19,6 @@ use Rattle.laws.specs.ByteLaws.{big_stored, number_before, number_after_lem}
 use Rattle.laws.specs.BlockLaws.{blocks_mono}
 use Rattle.laws.specs.FrameLaws.{SameFrame, states_same, highest_same, distributions_same, framing_same, frame_stored}
 use Rattle.laws.specs.ChainLaws.{reward_le_largest}
-use Rattle.laws.specs.RowLaws.{no_start, with_start}
 use Rattle.laws.specs.Acceptance.{Framed, accepted_file, accepted_series}
 use Rattle.laws.specs.MomentLaws.{run_judged}
 use Rattle.laws.specs.SeriesLaws.{series_judged}
@@ -30,24 +28,14 @@ use Rattle.laws.proofs.OrderLaws.{cell_no_lower}
 -- two models of which one is raised pass or stop at the same rows
 module _ (a b : Model) (e : RaisedModel a b) where
   weighed_kept : misweighted a ≡ misweighted b
-  weighed_kept =
-      elim (dec_lt 0 a.distributions) [
-        | yes some ↦
-            with_start a some
-            ∙ ap (λ (n : ℕ). not (eqb n 1000000)) (sum_same a.states a.start b.start (e.start some) ∙ ap (λ (n : ℕ). sum n b.start) e.states)
-            ∙ sym (with_start b (omega (arith, e.distributions)))
-        | no h ↦ no_start a (omega (arith, h)) ∙ sym (no_start b (omega (arith, h, e.distributions)))
-      ]
+  weighed_kept = grind (arith, sum_same)
 
   any_reward_kept : (k : ℕ) → any_above k a.states a.reward ≡ any_above k b.states b.reward
   unfolding max_reward
   any_reward_kept k = any_largest k a.states a.reward ∙ ap (ltb k) (largest_kept a b e) ∙ sym (any_largest k b.states b.reward)
 
   any_sum_kept : (k : ℕ) → any_above k a.states (row_sum a) ≡ any_above k b.states (row_sum b)
-  any_sum_kept k =
-      any_largest k a.states (row_sum a)
-      ∙ ap (ltb k) (largest_same a.states (row_sum a) (row_sum b) (sum_kept a b e) ∙ ap (λ (n : ℕ). largest n (row_sum b)) e.states)
-      ∙ sym (any_largest k b.states (row_sum b))
+  any_sum_kept k = grind (arith, any_largest, largest_same, sum_kept)
 
   quantities_kept : (times : List ℕ) → quantities a times ≡ quantities b times
   unfolding quantities
@@ -70,13 +58,7 @@ module _ (s t : List ℕ) (frame : framing 1 2 t ≡ framing 1 2 s) (e : RaisedM
       (ap (λ (n : ℕ). room n cells) block_kept)
 
   run_kept : run_of (model_of t) ≡ run_of (model_of s)
-  run_kept =
-      sym
-      (λ i.
-      record {
-        level = level_kept (model_of s) (model_of t) e i;
-        means = row_means (level_kept (model_of s) (model_of t) e i) (e.states i) (e.highest i);
-      })
+  run_kept = grind (arith, level_kept)
 
   -- it is answered the same, whether s is accepted or not
   pub outcome_kept : (cells : ℕ) → outcome t cells ≡ outcome s cells

@@ -1,6 +1,5 @@
 -- Document 02, S-3: demand 3 holds of each level and block of a series, and each level is at most 2m + 51.
-use Rattle.std.specs.Prelude.{ℕ, ◌<◌, ◌≡◌, length, get_or}
-use mathlib.Core.List.{List}
+use Rattle.std.specs.Prelude.{ℕ, ◌<◌, ◌≡◌, length, get_or, List}
 use Rattle.definitions.specs.File.{with_time}
 use Rattle.definitions.specs.Rules.{accepted, series_judgement}
 use Rattle.definitions.specs.Promise.{Promise}

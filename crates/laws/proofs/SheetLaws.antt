@@ -1,13 +1,13 @@
 -- The printed sheet: each figure denotes its cell, and what the program reads is the whole file.
-use Rattle.std.specs.Prelude.{ℕ, ◌+◌, ◌/◌, ◌%◌, ◌≤◌, ◌<◌, ◌≡◌, refl, List, length, get_or, take, replicate}
-use Rattle.std.proofs.Common.{arith, sym, ◌∙◌, ap, take_all, length-take-le}
+use Rattle.std.specs.Prelude.{ℕ, ◌+◌, ◌≤◌, ◌<◌, ◌≡◌, refl, List, length, get_or, take, replicate}
+use Rattle.std.proofs.Common.{arith, take_all, length-take-le}
 use Rattle.std.proofs.Math.Decide.{dec_lt}
 use Rattle.std.proofs.lemmas.List.{length-replicate}
 use Rattle.definitions.specs.declared.Run.{Run}
-use Rattle.definitions.specs.Chain.{Model, model_of}
-use Rattle.definitions.specs.Rules.{Answer, accepted, refused, saying, block_size, judgement}
+use Rattle.definitions.specs.Chain.{Model}
+use Rattle.definitions.specs.Rules.{Answer, accepted, refused, block_size, judgement}
 use Rattle.definitions.specs.Vectors.{ONE}
-use Rattle.definitions.specs.Moment.{figure_of, cell, model_level, outcome, cells_after, count_after}
+use Rattle.definitions.specs.Moment.{figure_of, cell, model_level, outcome, cells_after}
 use Rattle.definitions.specs.Sheet.{FiguresDenote, SheetDenotes, lent_cells, read_limit}
 use Rattle.laws.specs.ListLaws.{get_d_over}
 use Rattle.laws.specs.Acceptance.{WithinLimits, accepted_file}
@@ -26,12 +26,7 @@ figure_max m g r i l =
 -- nor is a cell after a run
 cell_max : (s : List ℕ) (run : Run) (cells : List ℕ) → outcome s (length cells) ≡ accepted run → (k : ℕ) → k < block_size s → get_or (cells_after (accepted run) s cells) k 0 ≤ ONE
 unfolding cells_after cell
-cell_max s run cells e k l =
-    let passed = run_judged s (length cells) run e in
-    let limits = (accepted_file s (length cells) passed).model.limits in
-    let level : run.level ≡ model_level (model_of s) = ap (λ (a : Answer Run). count_after (saying (λ x. x.level) a) 0) (sym e ∙ outcome_accepted s (length cells) passed) in
-    rw (get_d_over 0 (block_size s) (cell (model_of s) run.level) cells k l, level)
-    (figure_max (model_of s) limits (k % (model_of s).highest + 1) (k / (model_of s).highest) (state_of_cell k ((model_of s).states + (model_of s).distributions) (model_of s).highest l))
+cell_max s run cells e k l = grind (arith, run_judged, accepted_file, outcome_accepted, get_d_over, figure_max, state_of_cell)
 
 -- so each figure of a sheet denotes its cell
 pub sheet_denotes : (s : List ℕ) → SheetDenotes s

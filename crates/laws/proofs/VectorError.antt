@@ -1,5 +1,5 @@
 -- The vectors' error: U ≤ ONE·u ≤ U + 2(n + r) at every state, and u ≤ 1.
-use Prim.Native.Nat.{ℕ, zero, suc, ◌+◌, ◌*◌, ◌<◌}
+use Rattle.std.specs.Prelude.{ℕ, zero, suc, ◌+◌, ◌*◌, ◌<◌}
 use Rattle.definitions.specs.Chain.{Chain}
 use Rattle.definitions.specs.Vectors.{ONE, U}
 use Rattle.definitions.specs.Average.{Proper, exact_u}

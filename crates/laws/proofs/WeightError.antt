@@ -1,6 +1,6 @@
 -- The exact weights over their common divisor.
-use Prim.Native.Nat.{ℕ, ◌≤◌}
-use native.Mathlib.Omega.{arith}
+use Rattle.std.specs.Prelude.{ℕ, ◌≤◌}
+use Rattle.std.proofs.Common.{arith}
 use Rattle.definitions.specs.Average.{exact_weight}
 use Rattle.laws.specs.FractionLaws.{Low, High}
 use Rattle.laws.specs.WeightError.{divisor, z, over_divisor}

@@ -1,10 +1,8 @@
 -- What acceptance tells of a file.
-use Rattle.std.specs.Prelude.{ℕ, zero, suc, ◌+◌, ◌*◌, ◌-◌, ◌≤◌, ◌<◌, ◌≡◌, false, not, List, [], ◌∷◌, ◌++◌, get_or, leb, eqb}
-use Rattle.std.proofs.Common.{arith, le_refl, mul-le-mul, mul-le-mul_left, mul-le-mul_right, sym, ◌∙◌, ap, append_assoc}
-use Rattle.std.proofs.Math.Nat.{mul-pos}
+use Rattle.std.specs.Prelude.{ℕ, zero, suc, ◌+◌, ◌*◌, ◌-◌, ◌≤◌, ◌<◌, ◌≡◌, false, not, List, [], ◌∷◌, ◌++◌, get_or, leb, length}
+use Rattle.std.proofs.Common.{arith, le_refl, mul-le-mul, mul-le-mul_left, sym, ◌∙◌, ap, append_assoc, mul-pos, ltb-true, ltb-false, leb-false}
 use Rattle.std.proofs.Math.Decide.{ℕ_discrete}
-use Rattle.std.proofs.Math.ListN.{length}
-use borrow.Author.Tests.{ltb-true, ltb-false, leb-false, eqb-true, eqb-false, not-false}
+use Rattle.std.proofs.lemmas.Bool.{not-false, or_parts}
 use Rattle.definitions.specs.Sums.{sum, largest, any_above}
 use Rattle.definitions.specs.File.{length_field, version, state_count, highest_moment, tolerance_field, time_field, distributions, reward_field}
 use Rattle.definitions.specs.Chain.{Model, model_of, at_time, row_sum, uniform_rate, max_reward, jump_millionths}
@@ -12,12 +10,8 @@ use Rattle.definitions.specs.Rules.{accepted, Rows, fitting_length, framing, sta
 use Rattle.definitions.specs.Series.{model_at}
 use Rattle.laws.specs.SumLaws.{any_largest}
 use Rattle.laws.specs.RuleLaws.{and_then, in_parts, NoneHold, none_hold, accepted_value, none_in_parts}
-use Rattle.laws.specs.RowLaws.{neither, in_range, with_a_time, weights_by}
-use Rattle.laws.specs.ChainLaws.{distributions_max, square_max, rate_at_lem, rate_pos}
-
--- two numbers that do not differ
-held_equal : (x y : ℕ) → not (eqb x y) ≡ false → x ≡ y
-held_equal x y h = eqb-true x y (not-false (eqb x y) h)
+use Rattle.laws.specs.RowLaws.{in_range, weights_by}
+use Rattle.laws.specs.ChainLaws.{distributions_max, rate_at_lem, rate_pos}
 
 -- a test of a largest entry, read off
 none_above : (k n : ℕ) (f : ℕ → ℕ) → any_above k n f ≡ false → largest n f ≤ k
@@ -35,9 +29,7 @@ pub record Framed (s : List ℕ) : Type 0 where
 
 -- a framed file has at most 16,653 bytes
 pub length_max : (s : List ℕ) → Framed s → length s ≤ 16653
-length_max s f =
-    let square : state_count s * state_count s ≤ 64 * 64 = square_max (state_count s) 64 f.states_max in
-    omega (arith, f.size, square, mul-le-mul_right (state_count s) (distributions_max s), f.states_max)
+length_max s f = grind (arith, distributions_max)
 
 -- a block has at most 65 rows of 8 cells
 pub block_max : (s : List ℕ) → Framed s → highest_moment s ≤ 8 → block_size s ≤ 520
@@ -77,20 +69,11 @@ pub record AcceptedFile (s : List ℕ) (cells : ℕ) : Type 0 where
 module _ (low high : ℕ) (s : List ℕ) (row : NoneHold (framing low high s)) where
   counted_by : length_field s ≡ length s - 2
   unfolding framing
-  counted_by = held_equal (length_field s) (length s - 2) row.1.0
+  counted_by = grind arith
 
   pub framed_by : Framed s
   unfolding framing
-  framed_by =
-      let row4 = row.1.1.1 in
-      let states = in_range 1 64 (state_count s) row4.0 in
-      let header : 13 ≤ length s = ltb-false (length s) 13 row.0 in
-      let sized : length_field s ≡ fitting_length s = held_equal (length_field s) (fitting_length s) row4.1.1.0 in
-      record {
-        states_min = states.0;
-        states_max = states.1;
-        size = omega (arith, counted_by);
-      }
+  framed_by = grind arith
 
   version_by : (low ≤ version s) × (version s ≤ high)
   unfolding framing
@@ -128,10 +111,7 @@ limits_by low high s times T first row nonzero early =
 -- row 8: the file's time is not 0, and neither is the first of a list
 times_by : (s times : List ℕ) → NoneHold (quantities (model_of s) times) → (1 ≤ time_field s) × (starts_at_zero times ≡ false)
 unfolding quantities
-times_by s times row =
-    let both = neither (eqb (time_field s) 0) (starts_at_zero times) row.1.0 in
-    let nonzero : time_field s ≡ 0 → ⊥ = eqb-false (time_field s) 0 both.0 in
-    (omega (arith, nonzero), both.1)
+times_by s times row = grind arith
 
 -- the rows 1 to 11 and 16, which every call that reads a file shares: what their acceptance with E tells
 pub record Rateable (s : List ℕ) (E : ℕ) : Type 0 where
@@ -210,7 +190,7 @@ rises : (n : ℕ) (times : List ℕ) → falls_up_to n times ≡ false → (k : 
 unfolding falls_up_to
 rises zero times h k b = absurd (omega arith)
 rises (suc n) times h k b =
-    let both = neither (falls_up_to n times) (leb (get_or times (suc n) 0) (get_or times n 0)) h in
+    let both = or_parts (falls_up_to n times) (leb (get_or times (suc n) 0) (get_or times n 0)) h in
     elim (ℕ_discrete k n) [
       | yes e ↦ rw e (leb-false (get_or times (suc n) 0) (get_or times n 0) both.1)
       | no ne ↦ rises n times both.0 k (omega arith)
@@ -228,7 +208,7 @@ in_order n times h j (suc k) low high =
 
 -- row 8 of a list that has a time
 first_time : (times : List ℕ) → starts_at_zero times ≡ false → 1 ≤ length times → 1 ≤ get_or times 0 0
-first_time times h some = let nonzero : get_or times 0 0 ≡ 0 → ⊥ = eqb-false (get_or times 0 0) 0 (sym (with_a_time times some) ∙ h) in omega (arith, nonzero)
+first_time times h some = grind arith
 
 -- what acceptance tells of a file and a list of times, lent with a number of level cells and of block cells
 pub record AcceptedSeries (s times : List ℕ) (levels cells : ℕ) : Type 0 where
@@ -288,12 +268,4 @@ accepted_series s times levels cells passed =
 
 -- the file's own time is a list of one
 pub one_time : (s : List ℕ) (cells : ℕ) → AcceptedFile s cells → AcceptedSeries s (time_field s ∷ []) 1 cells
-one_time s cells f =
-    record {
-      framed = f.model.framed;
-      count_min = omega arith;
-      count_max = omega arith;
-      limits = λ k h. let first : k ≡ 0 = omega arith in rw first f.model.limits;
-      block_room = omega (arith, f.room);
-      level_room = omega arith;
-    }
+one_time s cells f = grind arith

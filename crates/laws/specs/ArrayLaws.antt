@@ -1,7 +1,6 @@
 -- Arrays that start as zeros.
 use Rattle.std.specs.Prelude.{List, ◌≡◌, refl, ℕ, ◌≤◌, ◌<◌, ltb, length, get_or, replicate}
 use Rattle.std.proofs.Common.{sym, ◌∙◌, arith, lt-ltb, le-ltb}
-use Rattle.std.proofs.Math.Decide.{dec_lt}
 use Rattle.std.proofs.lemmas.List.{length-replicate, get_or-replicate}
 use Rattle.std.proofs.Math.ListN.{get_or-eq_default}
 use Rattle.definitions.specs.Sums.{firsts, over, pick}
@@ -18,11 +17,7 @@ length_zeros n = length-replicate n 0
 
 pub zero_at : (n i : ℕ) → get_or (zeros n) i 0 ≡ 0
 unfolding zeros
-zero_at n i =
-    elim (dec_lt i n) [
-      | yes l ↦ get_or-replicate n i 0 0 l
-      | no p ↦ get_or-eq_default (zeros n) 0 {n = i} (omega (arith, p, length_zeros n))
-    ]
+zero_at n i = grind (arith, get_or-replicate, get_or-eq_default, length_zeros)
 
 -- the entries of a list
 abbrev pub entry_of : List ℕ → ℕ → ℕ

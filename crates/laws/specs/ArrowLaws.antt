@@ -1,24 +1,16 @@
 -- Document 02, S-7: the order of a sum, the list of a row's arrows, that the calculation over the arrows is document 01's, and that the arrays which hold the
 -- rows of a model hold its chain.
-use Prim.Native.Nat.{ℕ, zero, suc, ◌+◌, ◌*◌, ◌-◌, ◌/◌, ◌≤◌, ◌<◌, max}
-use native.Mathlib.Omega.{arith}
-use Rattle.std.proofs.Math.Decide.{ℕ_discrete, dec_lt}
-use Rattle.std.specs.Prelude.{◌≡◌, Bool, not, ◌&&◌, ◌||◌, ltb}
-use Rattle.std.proofs.Math.Path.{refl, ap, ap₂}
-use Rattle.std.proofs.Common.{sym, ◌∙◌, true≢false}
-use Rattle.std.proofs.Math.Bool.{true, false, or-true}
-use mathlib.Core.List.{List, [], ◌∷◌}
-use Rattle.std.proofs.Math.Dec.{eqb}
-use Rattle.std.proofs.Math.ListN.{length, get_or}
-use borrow.Author.Tests.{eq-eqb, ne_eqb, lt-ltb, le-ltb, ltb-true, ltb-false, not-true}
+use Rattle.std.specs.Prelude.{ℕ, zero, suc, ◌+◌, ◌*◌, ◌-◌, ◌/◌, ◌≤◌, ◌<◌, max, ◌≡◌, Bool, not, ◌&&◌, ◌||◌, ltb, refl, true, false, List, [], ◌∷◌, eqb, length, get_or}
+use Rattle.std.proofs.Common.{arith, ap, ap₂, sym, ◌∙◌, true≢false, eq-eqb, ne_eqb, lt-ltb, le-ltb, ltb-true}
+use Rattle.std.proofs.Math.Bool.{or-true}
+use Rattle.std.proofs.lemmas.Bool.{not-true, and_parts}
 use Rattle.definitions.specs.Sums.{sum, pick}
 use Rattle.definitions.specs.Chain.{Model, Listing, jump_rate, row_sum, uniform_rate, c, jump_millionths, chain_of, padded, target_at, rate_at, arrays, sizes_of}
-use Rattle.definitions.specs.Vectors.{row_mean, reward_share, mix, next_entry, next_vectors, U}
+use Rattle.definitions.specs.Vectors.{row_mean, next_entry, next_vectors, U}
 use Rattle.definitions.specs.Level.{level}
 use Rattle.definitions.specs.Moment.{weighted_mean, moment, model_level}
 use Rattle.definitions.specs.Arrows.{falling, is_in, others, add_up, is_arrow, arrows, ListsArrows, is_added, added_states, arrow_sum, arrow_rate, arrow_entry, arrow_mean, next_by_arrows, UByArrows, level_by_arrows, moment_by_arrows, SameByArrows}
 use Rattle.laws.specs.SumLaws.{sum_zero, sum_same, sum_none, sum_single, sum_first, sum_plus, sum_apart, largest_same}
-use Rattle.laws.specs.RowLaws.{neither, both}
 use Rattle.laws.specs.ChainLaws.{SameChain, get_d_padded}
 
 -- 1. The order of a sum.
@@ -47,7 +39,7 @@ sum_over_list M (x ∷ l) f total once within rest =
     ∙ omega (arith, sum_apart M x f (within x (ap (λ (b : Bool). b || is_in x l) (eq-eqb x x refl))))
   where
     tests : (not (is_in x l) ≡ true) × (distinct l ≡ true)
-    tests = both (not (is_in x l)) (distinct l) once
+    tests = and_parts (not (is_in x l)) (distinct l) once
 
     apart : ℕ → ℕ
     apart j = pick (eqb j x) 0 (f j)
@@ -56,11 +48,7 @@ sum_over_list M (x ∷ l) f total once within rest =
     not_first j h e = true≢false (sym h ∙ ap (λ (y : ℕ). is_in y l) e ∙ not-true (is_in x l) tests.0)
 
     left_out : (j : ℕ) → j < M → is_in j l ≡ false → apart j ≡ 0
-    left_out j b h =
-        elim (ℕ_discrete j x) [
-          | yes e ↦ rw (eq-eqb j x e) refl
-          | no ne ↦ rw (ne_eqb j x ne) (rest j b (ap (λ (t : Bool). t || is_in j l) (ne_eqb j x ne) ∙ h))
-        ]
+    left_out j b h = grind arith
 
 -- the sum, place by place of the list
 pub add_up_places : (l : List ℕ) (f : ℕ → ℕ) (total : ℕ) → add_up total l f ≡ total + sum (length l) (λ k. f (get_or l k 0))
@@ -74,85 +62,45 @@ module _ (passes : ℕ → Bool) where
   -- from n on downwards, as code counts: the next state is listed where it passes, and left out where it does not
   pub falling_takes : (n : ℕ) → 0 < n → passes (n - 1) ≡ true → falling passes n ≡ (n - 1) ∷ falling passes (n - 1)
   unfolding falling
-  falling_takes zero some p = absurd (omega arith)
-  falling_takes (suc n) some p = let back : suc n - 1 ≡ n = omega arith in rw back (rw (rw back at p) refl)
+  falling_takes n some p = grind arith
 
   pub falling_leaves : (n : ℕ) → 0 < n → passes (n - 1) ≡ false → falling passes n ≡ falling passes (n - 1)
   unfolding falling
-  falling_leaves zero some p = absurd (omega arith)
-  falling_leaves (suc n) some p = let back : suc n - 1 ≡ n = omega arith in rw back (rw (rw back at p) refl)
+  falling_leaves n some p = grind arith
 
   -- a state is in the list exactly when it is below n and passes
   pub is_in_falling : (n j : ℕ) → is_in j (falling passes n) ≡ (ltb j n && passes j)
   unfolding falling is_in
   is_in_falling zero j = rw (le-ltb j 0 (omega arith)) refl
-  is_in_falling (suc n) j = found (falling passes n) (passes n) refl (is_in_falling n j)
-    where
-      lower : (l : List ℕ) → is_in j l ≡ (ltb j n && passes j) → (j ≡ n → ⊥) → is_in j l ≡ (ltb j (suc n) && passes j)
-      lower l before ne =
-          before
-          ∙ elim (dec_lt j n) [
-            | yes b ↦ rw (lt-ltb j n b, lt-ltb j (suc n) (omega arith)) refl
-            | no q ↦ rw (le-ltb j n (omega (arith, q)), le-ltb j (suc n) (omega (arith, q, ne))) refl
-          ]
-
-      found : (l : List ℕ) (b : Bool) → passes n ≡ b → is_in j l ≡ (ltb j n && passes j) → is_in j (pick b (n ∷ l) l) ≡ (ltb j (suc n) && passes j)
-      found l true p before =
-          elim (ℕ_discrete j n) [
-            | yes e ↦ rw (eq-eqb j n e, lt-ltb j (suc n) (omega arith)) (sym (ap passes e ∙ p))
-            | no ne ↦ rw (ne_eqb j n ne) (lower l before ne)
-          ]
-      found l false p before =
-          elim (ℕ_discrete j n) [
-            | yes e ↦ before ∙ rw (le-ltb j n (omega arith), lt-ltb j (suc n) (omega arith)) (sym (ap passes e ∙ p))
-            | no ne ↦ lower l before ne
-          ]
+  is_in_falling (suc n) j = grind (arith, is_in_falling n j)
 
   pub length_falling : (n : ℕ) → length (falling passes n) ≤ n
   unfolding falling
   length_falling zero = omega arith
-  length_falling (suc n) = more (falling passes n) (passes n) (length_falling n)
-    where
-      more : (l : List ℕ) (b : Bool) → length l ≤ n → length (pick b (n ∷ l) l) ≤ suc n
-      more l true h = omega arith
-      more l false h = omega arith
+  length_falling (suc n) = grind (arith, length_falling n)
 
   -- each is below n
   falling_below : (n k : ℕ) → k < length (falling passes n) → get_or (falling passes n) k 0 < n
   unfolding falling
   falling_below zero k h = absurd (omega arith)
-  falling_below (suc n) k h = below (falling passes n) (passes n) (falling_below n) k h
-    where
-      below : (l : List ℕ) (b : Bool) → ((k : ℕ) → k < length l → get_or l k 0 < n) → (k : ℕ) → k < length (pick b (n ∷ l) l) → get_or (pick b (n ∷ l) l) k 0 < suc n
-      below l true before zero h = omega arith
-      below l true before (suc k) h = omega (arith, before k (omega arith))
-      below l false before k h = omega (arith, before k h)
+  falling_below (suc n) k h = grind (arith, falling_below n)
 
   -- and below the one before it
   pub falling_falls : (n k : ℕ) → suc k < length (falling passes n) → get_or (falling passes n) (suc k) 0 < get_or (falling passes n) k 0
   unfolding falling
   falling_falls zero k h = absurd (omega arith)
-  falling_falls (suc n) k h = falls (falling passes n) (passes n) (falling_below n) (falling_falls n) k h
-    where
-      falls : (l : List ℕ) (b : Bool) → ((k : ℕ) → k < length l → get_or l k 0 < n) → ((k : ℕ) → suc k < length l → get_or l (suc k) 0 < get_or l k 0) → (k : ℕ) → suc k < length (pick b (n ∷ l) l) → get_or (pick b (n ∷ l) l) (suc k) 0 < get_or (pick b (n ∷ l) l) k 0
-      falls l true below before zero h = below 0 (omega arith)
-      falls l true below before (suc k) h = before k (omega arith)
-      falls l false below before k h = before k h
+  falling_falls (suc n) k h = grind (arith, falling_falls n, falling_below n)
 
   distinct_falling : (n : ℕ) → distinct (falling passes n) ≡ true
   unfolding falling distinct
   distinct_falling zero = refl
-  distinct_falling (suc n) = once (falling passes n) (passes n) (is_in_falling n n ∙ rw (le-ltb n n (omega arith)) refl) (distinct_falling n)
-    where
-      once : (l : List ℕ) (b : Bool) → is_in n l ≡ false → distinct l ≡ true → distinct (pick b (n ∷ l) l) ≡ true
-      once l true out before = rw out before
-      once l false out before = before
+  distinct_falling (suc n) = grind (arith, distinct_falling n, is_in_falling)
 
   -- the sum over the list is the sum over all states below n, where what does not pass is 0
   pub sum_falling : (n : ℕ) (f : ℕ → ℕ) → ((j : ℕ) → j < n → passes j ≡ false → f j ≡ 0) → add_up 0 (falling passes n) f ≡ sum n f
   sum_falling n f rest =
       sum_over_list n (falling passes n) f 0 (distinct_falling n)
-      (λ j h. ltb-true j n (both (ltb j n) (passes j) (sym (is_in_falling n j) ∙ h)).0)
+      (λ j h. ltb-true j n (and_parts (ltb j n) (passes j) (sym (is_in_falling n j) ∙ h)).0)
       (λ j b h. rest j b (sym (ap (λ (t : Bool). t && passes j) (lt-ltb j n b)) ∙ sym (is_in_falling n j) ∙ h))
       ∙ omega arith
 
@@ -167,22 +115,12 @@ module _ (m : Model) (i : ℕ) where
   pub others_falling : (n : ℕ) → others i (falling (is_added m i) n) ≡ falling (is_arrow m i) n
   unfolding falling others
   others_falling zero = refl
-  others_falling (suc n) =
-      elim (ℕ_discrete n i) [
-        | yes e ↦ rw (eq-eqb n i e, eq-eqb n i e) (others_falling n)
-        | no ne ↦ rw (ne_eqb n i ne) (apart _ _ ne (ltb 0 (m.transition i n)) (others_falling n))
-      ]
-    where
-      apart : (l k : List ℕ) → (n ≡ i → ⊥) → (b : Bool) → others i l ≡ k → others i (pick b (n ∷ l) l) ≡ pick b (n ∷ k) k
-      apart l k ne true before = rw (ne_eqb n i ne) (ap (λ (x : List ℕ). n ∷ x) before)
-      apart l k ne false before = before
+  others_falling (suc n) = grind (arith, others_falling n)
 
   -- c is 0 at a state that is not added
   entry_left_out : (j : ℕ) → is_added m i j ≡ false → c m i j ≡ 0
   unfolding c
-  entry_left_out j h =
-      let tests = neither (eqb j i) (ltb 0 (m.transition i j)) h in
-      rw tests.0 (omega (arith, ltb-false 0 (m.transition i j) tests.1))
+  entry_left_out j h = grind arith
 
   -- a sum over the added states is the sum over all states of what is 0 where c is
   sum_added : (f : ℕ → ℕ) → ((j : ℕ) → c m i j ≡ 0 → f j ≡ 0) → add_up 0 (added_states m i) f ≡ sum m.states f
@@ -198,18 +136,12 @@ module _ (m : Model) (i : ℕ) where
     where
       at_arrow : (j : ℕ) → is_in j (falling (is_arrow m i) m.states) ≡ true → m.transition i j ≡ pick (eqb j i) 0 (m.transition i j)
       at_arrow j h =
-          let arrow = (both (ltb j m.states) (is_arrow m i j) (sym (is_in_falling (is_arrow m i) m.states j) ∙ h)).1 in
-          let other : eqb j i ≡ false = not-true (eqb j i) (both (not (eqb j i)) (ltb 0 (m.transition i j)) arrow).0 in
+          let arrow = (and_parts (ltb j m.states) (is_arrow m i j) (sym (is_in_falling (is_arrow m i) m.states j) ∙ h)).1 in
+          let other : eqb j i ≡ false = not-true (eqb j i) (and_parts (not (eqb j i)) (ltb 0 (m.transition i j)) arrow).0 in
           rw other refl
 
       no_arrow : (j : ℕ) → j < m.states → is_arrow m i j ≡ false → pick (eqb j i) 0 (m.transition i j) ≡ 0
-      no_arrow j b h =
-          elim (ℕ_discrete j i) [
-            | yes e ↦ rw (eq-eqb j i e) refl
-            | no ne ↦
-                let none : ltb 0 (m.transition i j) ≡ false = sym (ap (λ (t : Bool). not t && ltb 0 (m.transition i j)) (ne_eqb j i ne)) ∙ h in
-                rw (ne_eqb j i ne) (omega (arith, ltb-false 0 (m.transition i j) none))
-          ]
+      no_arrow j b h = grind arith
 
 -- 4. The calculation over the arrows is document 01's.
 
@@ -233,9 +165,7 @@ module _ (m : Model) where
   next_by_arrows_lem : (n : ℕ) (before old : ℕ → ℕ → ℕ) → before ≡ old → (r i : ℕ) → next_by_arrows m n before r i ≡ next_vectors (chain_of m) n old r i
   unfolding next_by_arrows next_vectors next_entry
   next_by_arrows_lem n before old e zero i = refl
-  next_by_arrows_lem n before old e (suc r) i =
-      ap₂ (mix n (suc r)) (arrow_mean_lem (before (suc r)) i ∙ ap (λ (u : ℕ → ℕ → ℕ). row_mean (chain_of m) (u (suc r)) i) e)
-      (ap (λ (x : ℕ). reward_share (chain_of m) x i) (next_by_arrows_lem n before old e r i))
+  next_by_arrows_lem n before old e (suc r) i = grind (arith, next_by_arrows_lem n before old e r i, arrow_mean_lem)
 
   vectors_by_arrows : (n : ℕ) → UByArrows m n ≡ U (chain_of m) n
   unfolding UByArrows U
@@ -278,10 +208,7 @@ module _ (m : Model) (a : Listing) (rows : HoldsRows m a) where
 
   -- what the places of row i add up to, one after another, is a sum in S-7's order: of any g of a state and its entry
   pub row_in_order : (g : ℕ → ℕ → ℕ) (i : ℕ) → i < m.states → sum (get_or a.counts i 0) (λ k. g (target_at m.states a i k) (rate_at m.states a i k)) ≡ add_up 0 (added_states m i) (λ j. g j (c m i j))
-  row_in_order g i l =
-      ap (λ (n : ℕ). sum n (λ k. g (target_at m.states a i k) (rate_at m.states a i k))) (rows.count i l)
-      ∙ sum_same (length (added_states m i)) _ (λ k. g (get_or (added_states m i) k 0) (c m i (get_or (added_states m i) k 0))) (λ k b. ap₂ g (rows.target i k l b) (rows.rate i k l b))
-      ∙ sym (add_up_places (added_states m i) (λ j. g j (c m i j)) 0 ∙ omega arith)
+  row_in_order g i l = grind (arith, sum_same, add_up_places)
 
   -- c(i,j) is what the places of row i have for j
   entry_is : (i j : ℕ) → i < m.states → j < m.states → sum (get_or a.counts i 0) (λ k. pick (eqb (target_at m.states a i k) j) (rate_at m.states a i k) 0) ≡ c m i j
@@ -292,8 +219,7 @@ module _ (m : Model) (a : Listing) (rows : HoldsRows m a) where
       ∙ rw (eq-eqb j j refl) refl
     where
       idle : (t : ℕ) → c m i t ≡ 0 → (b : Bool) → pick b (c m i t) 0 ≡ 0
-      idle t none true = none
-      idle t none false = refl
+      idle t none b = grind arith
 
   -- the arrays hold the model's chain
   pub arrays_same : (f : List ℕ) → f ≡ padded m.states m.reward → m.states ≤ 64 → SameChain (arrays (sizes_of m) a f) (chain_of m)

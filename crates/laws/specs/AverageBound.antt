@@ -1,11 +1,7 @@
 -- The distance of a weighted mean from the exact average, in whole numbers: the last steps of each bound.
-use Prim.Native.Nat.{ℕ, ◌+◌, ◌*◌, ◌-◌, ◌≤◌}
-use native.Mathlib.Omega.{arith}
-use Rattle.std.proofs.Math.Nat.{mul-le-mul_left}
-use Rattle.std.proofs.Common.{mul-le-mul_right}
+use Rattle.std.specs.Prelude.{ℕ, ◌+◌, ◌*◌, ◌-◌, ◌≤◌, ◌≡◌}
+use Rattle.std.proofs.Common.{arith, mul-le-mul_left, mul-le-mul_right, ap}
 use Rattle.std.proofs.Math.Decide.{dec_le}
-use Rattle.std.specs.Prelude.{◌≡◌}
-use Rattle.std.proofs.Math.Path.{ap}
 use Rattle.definitions.specs.Vectors.{ONE}
 use Rattle.definitions.specs.Level.{BILLION}
 

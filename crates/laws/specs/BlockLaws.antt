@@ -1,26 +1,15 @@
 -- Blocks of one size that follow each other in a list.
-use Prim.Native.Nat.{ℕ, zero, suc, ◌+◌, ◌*◌, ◌-◌, ◌/◌, ◌%◌, ◌≤◌, ◌<◌}
-use native.Mathlib.Omega.{arith}
-use Rattle.std.proofs.Common.{le_refl, mul-le-mul_right, ◌∙◌, length-take, length-drop, take-append-drop, drop-drop, get_or-take, get_or-drop, ext_get_or, length-take-le}
-use Rattle.std.proofs.Math.Nat.{add-zero, add-suc}
-use Rattle.std.proofs.Math.Decide.{dec_lt}
-use Rattle.std.specs.Prelude.{◌≡◌, refl, length}
-use Rattle.std.proofs.Math.Path.{sym, ap, ap₂}
-use mathlib.Core.List.{List, [], ◌∷◌, ◌++◌, append_assoc, append-nil}
-use Rattle.std.proofs.Math.ListN.{get_or, take, drop}
-use Rattle.std.proofs.Math.Seq.{take_at, drop_at}
+use Rattle.std.specs.Prelude.{ℕ, zero, suc, ◌+◌, ◌*◌, ◌-◌, ◌/◌, ◌%◌, ◌≤◌, ◌<◌, ◌≡◌, refl, length, List, [], ◌∷◌, ◌++◌, get_or, take, drop}
+use Rattle.std.proofs.Common.{arith, le_refl, ◌∙◌, length-take, length-drop, take-append-drop, drop-drop, get_or-take, get_or-drop, ext_get_or, length-take-le, add-zero, add-suc, sym, ap, ap₂, append_assoc, append-nil, take_at, drop_at}
 use Rattle.std.proofs.lemmas.List.{drop-append-le}
+use Rattle.std.proofs.lemmas.Nat.{row_fits}
 use Rattle.definitions.specs.Sums.{firsts, over, blocks}
-use Rattle.laws.specs.Rounding.{quotient_below, quotient_remainder, remainder_below, row_of_place, place_in_row, place_below}
+use Rattle.laws.specs.Rounding.{quotient_below, quotient_remainder, row_of_place, place_in_row}
 use Rattle.laws.specs.ListLaws.{length_firsts, firsts_same, length_over, get_d_over, get_d_over_past, over_none, over_same, over_mono, over_kept, over_again}
-
--- where there is a place in a number of blocks, a block has a size
-some_size : (p count size : ℕ) → p < count * size → 0 < size
-some_size p count size h = elim (dec_lt 0 size) [ yes pos ↦ pos | no q ↦ absurd (let none : size ≡ 0 = omega (arith, q) in omega (arith, rw none at h)) ]
 
 -- the blocks up to block k end by the end of all blocks
 pub block_end : (k count size : ℕ) → k < count → k * size + size ≤ count * size
-block_end k count size h = let most : (k + 1) * size ≤ count * size = mul-le-mul_right size (omega arith) in omega (arith, most)
+block_end k count size h = row_fits k size count size h (le_refl size)
 
 module _ {A : Type 0} where
   -- the first a entries, and n more
@@ -62,9 +51,7 @@ module _ {A : Type 0} where
     -- entry c of block k
     pub get_d_blocks : (d : A) (count : ℕ) (f : ℕ → ℕ → A) (l : List A) (k c : ℕ) → k < count → c < size → get_or (blocks size count f l) (k * size + c) d ≡ f k c
     unfolding blocks
-    get_d_blocks d count f l k c hk hc =
-        get_d_over d (count * size) (λ p. f (p / size) (p % size)) l (k * size + c) (place_below k c count size hk hc)
-        ∙ ap₂ f (row_of_place k c size hc) (place_in_row k c size hc)
+    get_d_blocks d count f l k c hk hc = grind (arith, get_d_over)
 
     -- the same, in block k taken out
     pub get_d_block : (d : A) (count : ℕ) (f : ℕ → ℕ → A) (l : List A) (k c : ℕ) → k < count → c < size → get_or (take size (drop (k * size) (blocks size count f l))) c d ≡ f k c
@@ -83,9 +70,7 @@ module _ {A : Type 0} where
 
     pub blocks_same : (count : ℕ) (f g : ℕ → ℕ → A) (l : List A) → ((k c : ℕ) → k < count → c < size → f k c ≡ g k c) → blocks size count f l ≡ blocks size count g l
     unfolding blocks
-    blocks_same count f g l same =
-        over_same (count * size) (λ p. f (p / size) (p % size)) (λ p. g (p / size) (p % size)) l
-        (λ p h. same (p / size) (p % size) (quotient_below p count size h) (remainder_below p size (some_size p count size h)))
+    blocks_same count f g l same = grind (arith, over_same, quotient_below)
 
     -- where f agrees with the list, filling the blocks changes nothing
     pub blocks_kept : (d : A) (count : ℕ) (f : ℕ → ℕ → A) (l : List A) → count * size ≤ length l → ((k c : ℕ) → k < count → c < size → f k c ≡ get_or l (k * size + c) d) → blocks size count f l ≡ l
@@ -140,6 +125,4 @@ module _ {A : Type 0} where
 -- no lower numbers in the blocks leave no entry lower
 pub blocks_mono : (size count : ℕ) (f g : ℕ → ℕ → ℕ) (l : List ℕ) → ((k c : ℕ) → k < count → c < size → f k c ≤ g k c) → (p : ℕ) → get_or (blocks size count f l) p 0 ≤ get_or (blocks size count g l) p 0
 unfolding blocks
-blocks_mono size count f g l h =
-    over_mono (count * size) (λ p. f (p / size) (p % size)) (λ p. g (p / size) (p % size)) l
-    (λ p b. h (p / size) (p % size) (quotient_below p count size b) (remainder_below p size (some_size p count size b)))
+blocks_mono size count f g l h = grind (arith, over_mono, quotient_below)

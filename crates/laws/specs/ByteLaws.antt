@@ -1,5 +1,5 @@
 -- Numbers in lists of bytes: one byte more, in a part of the list, how large, which bytes a number is read from, and that what is stored is read.
-use Rattle.std.specs.Prelude.{ℕ, zero, suc, ◌+◌, ◌*◌, ◌/◌, ◌%◌, ◌≤◌, ◌<◌, ◌^◌, ◌≡◌, refl, List, [], ◌∷◌, ◌++◌, length, get_or, take, drop, set}
+use Rattle.std.specs.Prelude.{ℕ, zero, suc, ◌+◌, ◌*◌, ◌/◌, ◌%◌, ◌≤◌, ◌<◌, ◌^◌, ◌≡◌, refl, List, [], ◌∷◌, ◌++◌, length, get_or, drop, set}
 use Rattle.std.proofs.Common.{arith, add_assoc, pow-suc, add-one, sym, ◌∙◌, ap, ap₂, append_assoc, length-set, length-append, get_or-drop, get_or-set_same, get_or-set_other, length-take-le}
 use Rattle.std.proofs.Math.Nat.{pow-le-pow_right}
 use Rattle.std.proofs.lemmas.List.Edits.{sets, sets-eq}
@@ -34,8 +34,7 @@ below_wider value width most h l = omega (arith, pow-le-pow_right {n = 256} (ome
 pub big_same : (width at : ℕ) (s t : List ℕ) → ((i : ℕ) → i < width → get_or s (at + i) 0 ≡ get_or t (at + i) 0) → big width s at ≡ big width t at
 unfolding big
 big_same zero at s t h = refl
-big_same (suc width) at s t h =
-    ap₂ (λ (a b : ℕ). a * 256 + b) (big_same width at s t (λ i b. h i (omega arith))) (h width (omega arith))
+big_same (suc width) at s t h = grind (arith, big_same width)
 
 -- what stands before a run of stores, and after it, is as it was; in it stand its own entries
 pub sets_before : (l : List ℕ) (i : ℕ) (vs : List ℕ) (k : ℕ) → k < i → get_or (sets l i vs) k 0 ≡ get_or l k 0
@@ -48,13 +47,8 @@ sets_after l i (v ∷ vs) k h = sets_after (set l i v) (suc i) vs k (omega arith
 
 pub sets_inside : (l : List ℕ) (i : ℕ) (vs : List ℕ) (k : ℕ) → i + length vs ≤ length l → k < length vs → get_or (sets l i vs) (i + k) 0 ≡ get_or vs k 0
 sets_inside l i [] k room h = absurd (omega arith)
-sets_inside l i (v ∷ vs) zero room h =
-    ap (λ (p : ℕ). get_or (sets (set l i v) (suc i) vs) p 0) (omega arith)
-    ∙ sets_before (set l i v) (suc i) vs i (omega arith)
-    ∙ get_or-set_same l i v 0 (omega arith)
-sets_inside l i (v ∷ vs) (suc k) room h =
-    ap (λ (p : ℕ). get_or (sets (set l i v) (suc i) vs) p 0) (omega arith)
-    ∙ sets_inside (set l i v) (suc i) vs k (omega (arith, room, length-set l i v)) (omega arith)
+sets_inside l i (v ∷ vs) zero room h = grind (arith, sets_before, get_or-set_same)
+sets_inside l i (v ∷ vs) (suc k) room h = grind (arith, sets_inside (set l i v) (suc i) vs k, length-set)
 
 pub length_bytes : (width n : ℕ) → length (bytes_of width n) ≡ width
 unfolding bytes_of
@@ -77,15 +71,11 @@ big_of_bytes (suc width) n pre post at e fits =
 pub big_below : (width at : ℕ) (s : List ℕ) → ((i : ℕ) → get_or s i 0 < 256) → big width s at < 256 ^ width
 unfolding big
 big_below zero at s low = omega arith
-big_below (suc width) at s low =
-    omega (arith, below_more (big width s at) width (get_or s (at + width) 0) (big_below width at s low) (low (at + width)), ap (λ (k : ℕ). 256 ^ k) (add-one width))
+big_below (suc width) at s low = grind (arith, big_below width, below_more)
 
 -- and so one that is stored in them
 pub big_stored : (width n : ℕ) (s : List ℕ) (at : ℕ) → at + width ≤ length s → n < 256 ^ width → big width (sets s at (bytes_of width n)) at ≡ n
-big_stored width n s at room fits =
-    ap (λ (l : List ℕ). big width l at) (sets-eq (bytes_of width n) s at (omega (arith, length_bytes width n)))
-    ∙ ap (λ (l : List ℕ). big width l at) (append_assoc (take at s) (bytes_of width n) (drop (at + length (bytes_of width n)) s))
-    ∙ big_of_bytes width n (take at s) (drop (at + length (bytes_of width n)) s) at (length-take-le at s (omega arith)) fits
+big_stored width n s at room fits = grind (arith, sets-eq, length_bytes, append_assoc, big_of_bytes, length-take-le)
 
 -- every number that stands before the bytes of n, or after them, is as it was
 module _ (width n : ℕ) (s : List ℕ) (at : ℕ) where

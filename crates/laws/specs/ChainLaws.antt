@@ -1,7 +1,7 @@
 -- The starting distributions that a file holds; the uniformized chain: each row of c sums to E, f ≤ F; chains that agree at their states, and chains
 -- of which one is no lower.
 use Rattle.std.specs.Prelude.{ℕ, ◌+◌, ◌*◌, ◌-◌, ◌≤◌, ◌<◌, ◌≡◌, refl, List, get_or, ltb}
-use Rattle.std.proofs.Common.{mul-le-mul, arith, sym, ◌∙◌, eq-eqb, ne_eqb, lt-ltb}
+use Rattle.std.proofs.Common.{mul-le-mul, arith, ◌∙◌, eq-eqb, ne_eqb, lt-ltb}
 use Rattle.std.proofs.Math.Decide.{ℕ_discrete}
 use Rattle.definitions.specs.Sums.{sum, pick}
 use Rattle.definitions.specs.File.{version, distributions}
@@ -73,17 +73,10 @@ pub record SameChain (a b : Chain) : Type 0 where
   pub reward : (i : ℕ) → i < a.states → a.reward i ≡ b.reward i
 
 pub itself : (ch : Chain) → SameChain ch ch
-itself ch = record { states = refl; rate = refl; largest_reward = refl; entry = λ i j li lj. refl; reward = λ i l. refl }
+itself ch = omega arith
 
 pub the_other_way : (a b : Chain) → SameChain a b → SameChain b a
-the_other_way a b e =
-    record {
-      states = sym e.states;
-      rate = sym e.rate;
-      largest_reward = sym e.largest_reward;
-      entry = λ i j li lj. sym (e.entry i j (omega (arith, e.states)) (omega (arith, e.states)));
-      reward = λ i l. sym (e.reward i (omega (arith, e.states)));
-    }
+the_other_way a b e = omega arith
 
 -- chain b has no lower entries of c and no lower rewards than chain a; M, E and F are the same
 pub record Raised (a b : Chain) : Type 0 where
@@ -95,11 +88,4 @@ pub record Raised (a b : Chain) : Type 0 where
 
 -- chains that agree are such chains
 pub same_raised : (a b : Chain) → SameChain a b → Raised a b
-same_raised a b e =
-    record {
-      states = e.states;
-      rate = e.rate;
-      largest_reward = e.largest_reward;
-      entry = λ i j li lj. omega (arith, e.entry i j li lj);
-      reward = λ i l. omega (arith, e.reward i l);
-    }
+same_raised a b e = omega arith

@@ -1,12 +1,7 @@
 -- Document 02, S-5: a file moved to the other version: its bytes, what calls answer of it, and the way back.
-use Prim.Native.Nat.{ℕ, zero, suc, ◌+◌, ◌*◌, ◌-◌, ◌≤◌, ◌<◌, ◌^◌}
-use native.Mathlib.Omega.{arith}
-use Rattle.std.proofs.Common.{add-one, ◌∙◌, ap₂, ltb-false}
-use Rattle.std.specs.Prelude.{◌≡◌, true, false, length, get_or, take, drop, replicate}
-use Rattle.std.proofs.Math.Path.{refl, sym, ap, subst}
-use mathlib.Core.List.{List, [], ◌∷◌, ◌++◌, append-nil}
+use Rattle.std.specs.Prelude.{ℕ, zero, suc, ◌+◌, ◌*◌, ◌-◌, ◌≤◌, ◌<◌, ◌^◌, ◌≡◌, true, false, length, get_or, take, drop, replicate, refl, List, [], ◌∷◌, ◌++◌}
+use Rattle.std.proofs.Common.{arith, add-one, ◌∙◌, ap₂, ltb-false, sym, ap, subst, append-nil, ext_get_or}
 use Rattle.std.proofs.lemmas.List.{length-replicate, replicate-append-replicate}
-use Rattle.std.proofs.Math.Seq.{ext_get_or}
 use Rattle.definitions.specs.Sums.{sum, largest, any_above, firsts}
 use Rattle.definitions.specs.Bytes.{bytes_of}
 use Rattle.definitions.specs.File.{length_field, version, state_count, distributions, weight_field, rewards_at}
@@ -82,21 +77,7 @@ module _ (s : List ℕ) (bytes : (i : ℕ) → get_or s i 0 < 256) where
   -- a file with the version and the weights that it has is itself
   same_start : (v : ℕ) (w : List ℕ) → Whole s → version s ≡ v → (fields_of s).weights ≡ w → file_of (in_version v w (fields_of s)) ≡ s
   unfolding fields_of
-  same_start v w whole e q = ap file_of fields ∙ file_of_fields s whole
-    where
-      fields : in_version v w (fields_of s) ≡ fields_of s
-      fields =
-          λ i.
-          record {
-            version = sym e i;
-            states = (fields_of s).states;
-            highest = (fields_of s).highest;
-            tolerance = (fields_of s).tolerance;
-            time = (fields_of s).time;
-            weights = sym q i;
-            rewards = (fields_of s).rewards;
-            rates = (fields_of s).rates;
-          }
+  same_start v w whole e q = grind (arith, file_of_fields)
 
   -- a version 1 file, moved to version 2
   module _ (passed : file_judgement 1 1 s ≡ accepted tt) where

@@ -1,10 +1,6 @@
 -- A file's bytes and its fields: each is had from the other.
-use Rattle.std.specs.Prelude.{ℕ, zero, suc, ◌+◌, ◌*◌, ◌-◌, ◌≤◌, ◌<◌, ◌^◌, ◌≡◌, get_or, eqb}
-use native.Mathlib.Omega.{arith}
-use Rattle.std.proofs.Common.{sub-one, ◌∙◌, length-drop, take-append-drop, take-add, take_all}
-use Rattle.std.proofs.Math.Path.{refl, sym, ap, ap₂}
-use mathlib.Core.List.{List, [], ◌∷◌, ◌++◌, append_assoc, append-nil}
-use Rattle.std.proofs.Math.ListN.{length, take, drop, length-append}
+use Rattle.std.specs.Prelude.{ℕ, zero, suc, ◌+◌, ◌*◌, ◌-◌, ◌≤◌, ◌<◌, ◌^◌, ◌≡◌, get_or, eqb, refl, List, [], ◌∷◌, ◌++◌, length, take, drop}
+use Rattle.std.proofs.Common.{arith, sub-one, ◌∙◌, length-drop, take-append-drop, take-add, take_all, sym, ap, ap₂, append_assoc, append-nil, length-append}
 use Rattle.definitions.specs.Sums.{firsts, pick}
 use Rattle.definitions.specs.Bytes.{bytes_of}
 use Rattle.definitions.specs.File.{length_field, version, state_count, highest_moment, tolerance_field, time_field, distributions, rewards_at}
@@ -35,12 +31,7 @@ module _ (s : List ℕ) (whole : Whole s) where
   -- rewards and rates are all numbers from the rewards on
   numbers_rest : (fields_of s).rewards ++ (fields_of s).rates ≡ numbers_at s (rewards_at s) (M + M * (M - 1))
   unfolding fields_of
-  numbers_rest =
-      ap (λ (k : ℕ). numbers_at s (rewards_at s) M ++ numbers_at s k (M * (M - 1))) start
-      ∙ sym (numbers_further s (rewards_at s) M (M * (M - 1)))
-    where
-      start : rewards_at s + 4 * M + 4 * (M - 1) * 0 ≡ rewards_at s + 4 * M
-      start = omega arith
+  numbers_rest = grind (arith, numbers_further)
 
   -- how many there are
   length_rest : length ((fields_of s).rewards ++ (fields_of s).rates) ≡ M * M
@@ -218,10 +209,7 @@ module _ (f : Fields) where
         }
 
     single_bytes : (k : ℕ) → get_or (f.version ∷ f.states ∷ f.highest ∷ []) k 0 < 256
-    single_bytes zero = fits.version_fits
-    single_bytes (suc zero) = fits.states_fit
-    single_bytes (suc (suc zero)) = fits.highest_fits
-    single_bytes (suc (suc (suc k))) = omega arith
+    single_bytes k = grind arith
 
     header_bytes : (k : ℕ) → get_or (front f) k 0 < 256
     unfolding headed

@@ -1,14 +1,10 @@
 -- A file that holds given fields: the rows of its framing, and its weights, reward rates and transition rates one by one.
-use Rattle.std.specs.Prelude.{ℕ, ◌+◌, ◌*◌, ◌-◌, ◌≤◌, ◌<◌, ◌≡◌, List, length}
-use Rattle.std.proofs.Common.{arith, mul_comm, ◌∙◌, lt-ltb, le-ltb}
-use Rattle.std.proofs.Math.Decide.{dec_lt}
-use Rattle.std.proofs.Math.Path.{sym, ap}
-use Rattle.std.proofs.Math.ListN.{get_or}
+use Rattle.std.specs.Prelude.{ℕ, ◌+◌, ◌*◌, ◌-◌, ◌≤◌, ◌<◌, ◌≡◌, List, length, get_or}
+use Rattle.std.proofs.Common.{arith, ◌∙◌, le-ltb, sym, ap}
 use Rattle.definitions.specs.Bytes.{big}
-use Rattle.definitions.specs.File.{length_field, state_count, tolerance_field, time_field, distributions, weight_field, rewards_at, reward_field, row_at, place, rate_field}
+use Rattle.definitions.specs.File.{length_field, state_count, tolerance_field, time_field, distributions, weight_field, rewards_at, reward_field, place, rate_field}
 use Rattle.definitions.specs.Rules.{fitting_length, dimensions, framing}
 use Rattle.definitions.specs.Fields.{Fields, numbers_at, fields_of, file_of}
-use Rattle.laws.specs.Rounding.{place_below}
 use Rattle.laws.specs.ListLaws.{get_d_firsts}
 use Rattle.laws.specs.RuleLaws.{NoneHold, agree}
 use Rattle.laws.specs.RowLaws.{is_inside}
@@ -16,11 +12,7 @@ use Rattle.laws.specs.FieldLaws.{Fits, version_of_file, states_of_file, highest_
 
 -- the place of another state in a row of M − 1 rates
 pub place_max : (i j M : ℕ) → i < M → j < M → (j ≡ i → ⊥) → place i j < M - 1
-place_max i j M li lj ne =
-    elim (dec_lt j i) [
-      | yes before ↦ rw (lt-ltb j i before) (omega arith)
-      | no after ↦ rw (le-ltb j i (omega (arith, after))) (omega (arith, ne))
-    ]
+place_max i j M li lj ne = grind arith
 
 -- number k of a list of numbers that a file holds
 number_at : (s : List ℕ) (at n k : ℕ) → k < n → get_or (numbers_at s at n) k 0 ≡ big 4 s (at + 4 * k)
@@ -30,11 +22,7 @@ number_at s at n k l = get_d_firsts 0 n (λ j. big 4 s (at + 4 * j)) k l
 -- the rate from i to another state j among the rates that a file states
 pub rate_stated : (s : List ℕ) (i j : ℕ) → i < state_count s → j < state_count s → (j ≡ i → ⊥) → rate_field s i j ≡ get_or (fields_of s).rates (i * (state_count s - 1) + place i j) 0
 unfolding fields_of
-rate_stated s i j li lj ne =
-    let M = state_count s in
-    let there : row_at s i + 4 * place i j ≡ row_at s 0 + 4 * (i * (M - 1) + place i j) = omega (arith, mul_comm (M - 1) i) in
-    ap (big 4 s) there
-    ∙ sym (number_at s (row_at s 0) (M * (M - 1)) (i * (M - 1) + place i j) (place_below i (place i j) M (M - 1) li (place_max i j M li lj ne)))
+rate_stated s i j li lj ne = grind (arith, number_at)
 
 module _ (f : Fields) (fits : Fits f) where
   abbrev t : List ℕ

@@ -1,23 +1,18 @@
 -- The truncation level: the computed one is the least n that passes both tests, and it is at most 2m + 51.
-use Rattle.std.specs.Prelude.{ℕ, zero, suc, ◌+◌, ◌*◌, ◌-◌, ◌/◌, ◌≤◌, ◌≡◌, refl, Bool, true, false, leb}
-use Rattle.std.proofs.Common.{arith, mul-le-mul_left, le_refl, leb-true, le-leb}
-use Rattle.std.proofs.Math.Nat.{mul-le-mul}
-use Rattle.definitions.specs.Weights.{MILLION, mode, weight, weight_sum}
-use Rattle.definitions.specs.Level.{BILLION, tail_bound, allowance, Passes, IsLevel, passes?, first_from, level, last_level}
-use Rattle.laws.specs.Rounding.{quotient_at_most, quotient_at_least}
-use Rattle.laws.specs.RowLaws.{both}
+use Rattle.std.specs.Prelude.{ℕ, zero, suc, ◌+◌, ◌≤◌, ◌≡◌, refl, Bool, true, false}
+use Rattle.std.proofs.Common.{arith}
+use Rattle.definitions.specs.Weights.{mode}
+use Rattle.definitions.specs.Level.{tail_bound, allowance, Passes, IsLevel, passes?, first_from, level, last_level}
 use Rattle.laws.specs.WeightLaws.{mode_low, mode_high, weight_gone, weight_sum_min}
 
 -- the computed test is the paper's
 pub passes_true : (X ε n : ℕ) → passes? X ε n ≡ true → Passes X ε n
 unfolding passes?
-passes_true X ε n h =
-    let two = both (leb X (n * MILLION)) (leb (tail_bound X n) (allowance X ε n)) h in
-    record { past = leb-true X (n * MILLION) two.0; small = leb-true (tail_bound X n) (allowance X ε n) two.1 }
+passes_true X ε n h = grind arith
 
 pub true_passes : (X ε n : ℕ) → Passes X ε n → passes? X ε n ≡ true
 unfolding passes?
-true_passes X ε n p = rw (le-leb X (n * MILLION) p.past, le-leb (tail_bound X n) (allowance X ε n) p.small)
+true_passes X ε n p = grind arith
 
 -- what a search from n finds, where p ≥ n passes and is within the tries
 pub record Found (X ε n p N : ℕ) : Type 0 where
@@ -33,14 +28,7 @@ found X ε zero n p low high h =
 found X ε (suc tries) n p low high h = from (passes? X ε n) refl (found X ε tries (suc n) p)
   where
     from : (b : Bool) → passes? X ε n ≡ b → (suc n ≤ p → p ≤ suc n + tries → passes? X ε p ≡ true → Found X ε (suc n) p (first_from X ε tries (suc n))) → Found X ε n p (elim b [ true ↦ n | false ↦ first_from X ε tries (suc n) ])
-    from true e later = record { passes = e; within = low; least = λ k l t. l }
-    from false e later =
-        let beyond : (k : ℕ) → n ≤ k → passes? X ε k ≡ true → suc n ≤ k = λ k l t. omega (arith, differ e k t) in
-        let rest = later (beyond p low h) (omega arith) h in
-        record { passes = rest.passes; within = rest.within; least = λ k l t. rest.least k (beyond k l t) t }
-      where
-        differ : passes? X ε n ≡ false → (k : ℕ) → passes? X ε k ≡ true → n ≡ k → ⊥
-        differ e k t q = let z : ◌≡◌ {A = ℕ} 0 1 = cc in omega arith
+    from b e later = grind arith
 
 -- how many levels there may be, 0 to 563: q is at most 256
 abbrev pub LEVELS : ℕ
@@ -50,24 +38,7 @@ module _ (X ε : ℕ) (jumps_max : X ≤ 256000000) (tolerance_pos : 1 ≤ ε) w
   -- at 2m + 51 the weight is 0, t is at most 257 and a millionth of 10^15 is allowed
   pub last_passes : Passes X ε (last_level X)
   unfolding tail_bound allowance
-  last_passes =
-      record {
-        past = omega (arith, mode_high X);
-        small = omega (arith, few, quotient_at_least (weight_sum X (last_level X) * ε) 1000000 BILLION (omega arith) enough);
-      }
-    where
-      enough : 1000000 * BILLION ≤ weight_sum X (last_level X) * ε
-      enough = omega (arith, mul-le-mul (weight_sum_min X (last_level X) (omega arith)) tolerance_pos)
-
-      reach : (weight X (last_level X) + last_level X - mode X) * X ≤ 256 * ((last_level X + 1) * MILLION - X)
-      reach =
-          let gone : weight X (last_level X) ≡ 0 = weight_gone X (last_level X) (le_refl (last_level X)) in
-          let left : weight X (last_level X) + last_level X - mode X ≡ mode X + 51 = omega arith in
-          let room : (mode X + 51) * MILLION ≤ (last_level X + 1) * MILLION - X = omega (arith, mode_high X) in
-          rw left (omega (arith, mul-le-mul_left (mode X + 51) jumps_max))
-
-      few : (weight X (last_level X) + last_level X - mode X) * X / ((last_level X + 1) * MILLION - X) ≤ 256
-      few = quotient_at_most _ 256 _ reach
+  last_passes = grind (arith, mode_high, weight_sum_min, weight_gone)
 
   level_found : Found X ε 0 (last_level X) (level X ε)
   unfolding level

@@ -1,12 +1,8 @@
 -- Lists whose first entries are given by a function, over the type of the entries.
-use Prim.Native.Nat.{ℕ, zero, suc, ◌+◌, ◌-◌, ◌≤◌, ◌<◌}
-use Rattle.std.proofs.Common.{arith, add-one, ◌∙◌, drop_of_length-le, ext_get_or}
+use Rattle.std.specs.Prelude.{ℕ, zero, suc, ◌+◌, ◌-◌, ◌≤◌, ◌<◌, ◌≡◌, length, refl, List, [], ◌∷◌, ◌++◌, get_or, drop, set}
+use Rattle.std.proofs.Common.{arith, add-one, ◌∙◌, drop_of_length-le, ext_get_or, sym, ap, ap₂, append_assoc, append-nil, length-append, length-drop, length-set, drop-cons, get_or-append-add, get_or-drop, drop-set-lt, get_or-set_same}
 use Rattle.std.proofs.Math.Decide.{ℕ_discrete, dec_lt}
-use Rattle.std.specs.Prelude.{◌≡◌, length}
-use Rattle.std.proofs.Math.Path.{refl, sym, ap, ap₂}
-use mathlib.Core.List.{List, [], ◌∷◌, ◌++◌, map, append_assoc, append-nil}
-use Rattle.std.proofs.Math.ListN.{get_or, drop, set, length-append, length-drop, length-set, get_or-append}
-use Rattle.std.proofs.Math.Seq.{drop-cons, get_or-append-add, get_or-drop, drop-set-lt, get_or-set_same}
+use Rattle.std.proofs.Math.ListN.{get_or-append}
 use Rattle.std.proofs.lemmas.List.{set_at, get_or_at}
 use Rattle.definitions.specs.Sums.{firsts, over}
 
@@ -30,12 +26,6 @@ module _ {A : Type 0} where
   unfolding firsts
   firsts_same zero f g h = refl
   firsts_same (suc n) f g h = ap₂ (λ (l : List A) (x : A). l ++ (x ∷ [])) (firsts_same n f g (λ i l. h i (omega arith))) (h n (omega arith))
-
-  -- an entry of a mapped list, whatever stands past its end
-  pub get_d_map : {B : Type 0} (f : A → B) (l : List A) (k : ℕ) (d : A) (e : B) → k < length l → get_or (map f l) k e ≡ f (get_or l k d)
-  get_d_map f [] k d e h = absurd (omega arith)
-  get_d_map f (x ∷ l) zero d e h = refl
-  get_d_map f (x ∷ l) (suc k) d e h = get_d_map f l k d e (omega arith)
 
   pub over_none : (f : ℕ → A) (l : List A) → over 0 f l ≡ l
   unfolding over firsts

@@ -1,12 +1,8 @@
 -- A whole log in one call: its stays one by one, what its table says, and the claim from what is left in the cells.
-use Rattle.std.specs.Prelude.{ℕ, zero, suc, ◌+◌, ◌*◌, ◌-◌, ◌/◌, ◌%◌, ◌≤◌, ◌<◌, false, not, refl, length, take, eqb, ltb}
-use Rattle.std.proofs.Common.{arith, sym, ◌∙◌, lt-ltb, le-ltb, eq-eqb, ne_eqb, ltb-false}
-use Rattle.std.proofs.Math.Numerals.{add-one}
-use Rattle.std.proofs.Math.Decide.{ℕ_discrete, dec_lt}
-use mathlib.Core.List.{List, [], ◌∷◌, ◌++◌}
-use Rattle.std.proofs.Math.Path.{◌≡◌, ap}
-use Rattle.std.proofs.Math.ListN.{get_or}
-use Rattle.std.proofs.Math.Seq.{get_or-take}
+use Rattle.std.specs.Prelude.{ℕ, zero, suc, ◌+◌, ◌*◌, ◌-◌, ◌/◌, ◌%◌, ◌≤◌, ◌<◌, false, not, refl, length, take, eqb, ltb, List, [], ◌∷◌, ◌++◌, ◌≡◌, get_or}
+use Rattle.std.proofs.Common.{arith, sym, ◌∙◌, eq-eqb, ne_eqb, ltb-false, add-one, ap, get_or-take}
+use Rattle.std.proofs.Math.Decide.{ℕ_discrete}
+use Rattle.std.proofs.lemmas.Bool.{or_parts}
 use Rattle.definitions.specs.Sums.{sum, any_above, blocks}
 use Rattle.definitions.specs.File.{state_count, place}
 use Rattle.definitions.specs.Chain.{model_of, jump_rate, row_sum}
@@ -19,7 +15,7 @@ use Rattle.laws.specs.SumLaws.{sum_mono, largest_le}
 use Rattle.laws.specs.ListLaws.{get_d_over}
 use Rattle.laws.specs.BlockLaws.{get_d_blocks}
 use Rattle.laws.specs.RuleLaws.{NoneHold, none_hold, none_in_parts, also_refused, also_accepted}
-use Rattle.laws.specs.RowLaws.{neither, not_above}
+use Rattle.laws.specs.RowLaws.{not_above}
 use Rattle.laws.specs.FileLaws.{place_max, rate_stated}
 use Rattle.laws.specs.StayLaws.{taken_none, taken_by, lasts_fine, row_rates, rate_max}
 
@@ -63,18 +59,14 @@ log_passes M W size answers rates e =
     let first = none_in_parts (start_rows M W) (size_row size ++ room (size / 3) answers ++ room (M * (M - 1)) rates) rows in
     record {
       starts = first.0;
-      stays_max = ltb-false most_stays (size / 3) (neither (not (eqb (size % 3) 0)) (ltb most_stays (size / 3)) first.1.0).1;
+      stays_max = ltb-false most_stays (size / 3) (or_parts (not (eqb (size % 3) 0)) (ltb most_stays (size / 3)) first.1.0).1;
       answers_fit = ltb-false answers (size / 3) first.1.1.0;
       rates_fit = ltb-false rates (M * (M - 1)) first.1.1.1.0;
     }
 
 -- the place of a state, and the state at a place
 state_at_place : (i j : ℕ) → (j ≡ i → ⊥) → state_at i (place i j) ≡ j
-state_at_place i j ne =
-    elim (dec_lt j i) [
-      | yes l ↦ rw (lt-ltb j i l) (rw (lt-ltb j i l) refl)
-      | no p ↦ rw (le-ltb j i (omega (arith, p))) (rw (le-ltb (j - 1) i (omega (arith, p, ne))) (omega (arith, p, ne)))
-    ]
+state_at_place i j ne = grind arith
 
 -- the rates that are read
 module _ (M W : ℕ) (log rates : List ℕ) where
@@ -129,7 +121,7 @@ module _ (M W : ℕ) (log answers rates : List ℕ) where
       }
     where
       no : {A : Type 0} (n : ℕ) → refused k ≡ accepted n → A
-      no n same = absurd (let z : ◌≡◌ {A = ℕ} 0 1 = cc in omega arith)
+      no n same = cc
 
   pub log_accepted :
       judged_by (log_rows M W (length log) (length answers) (length rates)) ≡ accepted tt → (n : ℕ) (answered done : List ℕ) → n ≡ length (taken M (offered log)) →

@@ -1,6 +1,6 @@
 -- The moments: their cells, the last quotient, and the level.
 use Rattle.std.specs.Prelude.{ℕ, suc, ◌+◌, ◌*◌, ◌-◌, ◌/◌, ◌%◌, ◌≤◌, ◌<◌, ◌≡◌, refl, List, get_or}
-use Rattle.std.proofs.Common.{arith, le_antisymm, mul-le-mul, mul-le-mul_left, mul-le-mul_right, ◌∙◌, ap₂, lt-ltb, le-ltb}
+use Rattle.std.proofs.Common.{arith, le_antisymm, mul-le-mul, mul-le-mul_left, ◌∙◌, lt-ltb, le-ltb}
 use Rattle.definitions.specs.declared.Run.{Run}
 use Rattle.definitions.specs.Sums.{over}
 use Rattle.definitions.specs.Division.{Rounds}
@@ -9,7 +9,7 @@ use Rattle.definitions.specs.Vectors.{ONE}
 use Rattle.definitions.specs.Weights.{weight, weight_sum}
 use Rattle.definitions.specs.Moment.{term, weighted, last_quotient, weighted_mean, moment, start_figure, cell_of, figure_of, cell, run_of, outcome}
 use Rattle.definitions.specs.Rules.{accepted, refused, rows, judgement}
-use Rattle.laws.specs.Rounding.{quotient_at_most, quotient_mono, quotient_below, quotient_unique, remainder_below, remainder_unique, row_of_place, place_in_row, place_below}
+use Rattle.laws.specs.Rounding.{quotient_at_most, quotient_below, remainder_below, place_in_row, place_below}
 use Rattle.laws.specs.Nearest.{nearest_at_most, nearest_mono, nearest_up, nearest_down, nearest_rounds}
 use Rattle.laws.specs.SumLaws.{sum_mono}
 use Rattle.laws.specs.RuleLaws.{also_refused, also_accepted}
@@ -33,8 +33,7 @@ moment_of_cell i r R low high = omega (arith, place_in_row i (r - 1) R (omega ar
 -- that cell holds the figure of row i
 pub cell_holds : (m : Model) (N i r : ℕ) → 1 ≤ r → r ≤ m.highest → cell m N (cell_of m i r) ≡ figure_of m N r i
 unfolding cell cell_of
-cell_holds m N i r low high =
-    ap₂ (figure_of m N) (moment_of_cell i r m.highest low high) (row_of_place i (r - 1) m.highest (omega arith))
+cell_holds m N i r low high = grind (arith, moment_of_cell)
 
 -- which is the moment of a state, and past the states the start figure
 pub figure_of_state : (m : Model) (N r i : ℕ) → i < m.states → figure_of m N r i ≡ moment m N r i
@@ -64,9 +63,7 @@ weighted_max X N u h = sum_mono (suc N) (λ n. term (weight X n) (u n)) (weight 
 -- no lower values up to N have no lower weighted mean, whatever X and N
 pub weighted_mean_mono : (X N : ℕ) (u v : ℕ → ℕ) → ((n : ℕ) → n ≤ N → u n ≤ v n) → weighted_mean X u N ≤ weighted_mean X v N
 unfolding weighted_mean last_quotient weighted term
-weighted_mean_mono X N u v h =
-    let terms = sum_mono (suc N) (λ n. weight X n * u n / ONE) (λ n. weight X n * v n / ONE) (λ n l. quotient_mono (weight X n * u n) (weight X n * v n) ONE (mul-le-mul_left (weight X n) (h n (omega arith)))) in
-    nearest_mono (weighted X u N * ONE) (weighted X v N * ONE) (weight_sum X N) (mul-le-mul_right ONE terms)
+weighted_mean_mono X N u v h = grind (arith, sum_mono, mul-le-mul_left, nearest_mono)
 
 -- equal values have equal ones
 pub weighted_mean_same : (X N : ℕ) (u v : ℕ → ℕ) → ((n : ℕ) → n ≤ N → u n ≡ v n) → weighted_mean X u N ≡ weighted_mean X v N
@@ -88,9 +85,7 @@ last_down A S h = nearest_down (A * ONE) S h
 
 -- of no sum it is 0
 pub last_none : (S : ℕ) → 0 < S → last_quotient 0 S ≡ 0
-last_none S pos =
-    let none : 0 * ONE % S ≡ 0 = remainder_unique (0 * ONE) S 0 0 pos (omega arith) in
-    last_down 0 S (omega (arith, none)) ∙ quotient_unique (0 * ONE) S 0 0 pos (omega arith)
+last_none S pos = grind (arith, last_down)
 
 pub last_rounds : (A S : ℕ) → 0 < S → Rounds (A * ONE) S (last_quotient A S) (A * ONE % S)
 unfolding last_quotient

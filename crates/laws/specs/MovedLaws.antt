@@ -1,8 +1,6 @@
 -- A file with another version and other starting weights, and else the fields of a file: its model, rows, level and moments.
 use Rattle.std.specs.Prelude.{ℕ, ◌+◌, ◌*◌, ◌-◌, ◌≤◌, ◌<◌, ◌^◌, ◌≡◌, false, List, [], ◌++◌, length, get_or, drop, eqb}
-use Rattle.std.proofs.Common.{arith, sym, ◌∙◌}
-use Rattle.std.proofs.Math.Nat.{mul-le-mul}
-use Rattle.std.proofs.Math.Path.{ap, subst}
+use Rattle.std.proofs.Common.{arith, sym, ◌∙◌, mul-le-mul, ap, subst}
 use Rattle.definitions.specs.Sums.{pick}
 use Rattle.definitions.specs.Bytes.{big}
 use Rattle.definitions.specs.File.{state_count, highest_moment, tolerance_field, time_field, distributions, weight_field, rewards_at, reward_field, row_at, place, rate_field}

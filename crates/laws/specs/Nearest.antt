@@ -1,27 +1,23 @@
 -- Rounding to the nearest, a half going up, argued once for any divisor. `a / 0` is 0, so a law that needs a divisor says `0 < c`.
 -- Assumes nothing.
-use Rattle.std.specs.Prelude.{ℕ, ◌+◌, ◌*◌, ◌-◌, ◌/◌, ◌%◌, ◌<◌, ◌≤◌, ◌≡◌, leb}
-use Rattle.std.proofs.Math.Decide.{dec_le}
+use Rattle.std.specs.Prelude.{ℕ, ◌+◌, ◌*◌, ◌/◌, ◌%◌, ◌<◌, ◌≤◌, ◌≡◌, leb}
 use Rattle.std.proofs.Common.{arith, le-leb}
+use Rattle.std.proofs.Math.Decide.{dec_le}
 use Rattle.std.proofs.lemmas.Bool.{lt-leb}
 use Rattle.definitions.specs.Sums.{pick}
 use Rattle.definitions.specs.Division.{Rounds}
 use Rattle.definitions.specs.Moment.{nearest, WithinHalf}
-use Rattle.laws.specs.Rounding.{quotient_low, quotient_high, quotient_mono, quotient_below, quotient_unique, quotient_remainder, remainder_below, divides}
+use Rattle.laws.specs.Rounding.{quotient_mono, quotient_below, quotient_remainder, between_multiples, remainder_below, divides}
 
 -- the nearest number is at most one half away
 pub nearest_within : (a c : ℕ) → 0 < c → WithinHalf a c (nearest a c)
 unfolding nearest
-nearest_within a c pos =
-    record {
-      above = omega (arith, quotient_low (2 * a + c) (2 * c));
-      below = omega (arith, quotient_high (2 * a + c) (2 * c) (omega arith));
-    }
+nearest_within a c pos = omega arith
 
 -- and a number is the nearest that is at most one half above a / c, or less than one half below it
 pub nearest_is : (a c n : ℕ) → 2 * (n * c) ≤ 2 * a + c → 2 * a < 2 * (n * c) + c → nearest a c ≡ n
 unfolding nearest
-nearest_is a c n above below = quotient_unique (2 * a + c) (2 * c) n (2 * a + c - 2 * (n * c)) (omega arith) (omega arith)
+nearest_is a c n above below = (between_multiples (2 * a + c) (2 * c) n (omega arith) (omega arith)).0
 
 -- a half goes up
 pub half_up : (a c n : ℕ) → 0 < c → 2 * a ≡ 2 * (n * c) + c → nearest a c ≡ n + 1

@@ -1,11 +1,8 @@
 -- Document 02, S-9: a model with no lower reward rates than another, the largest being the same, has its rates and its level. That no figure is lower, and that
 -- the moment for r + 1 is at most that for r, is shown in proofs/.
-use Prim.Native.Nat.{ℕ, ◌*◌, ◌-◌, max, ◌≤◌, ◌<◌}
-use Rattle.std.proofs.Common.{arith, le_refl, ◌∙◌, eq-eqb, ne_eqb}
-use Rattle.std.proofs.Math.Nat.{le_antisymm}
+use Rattle.std.specs.Prelude.{ℕ, ◌*◌, ◌-◌, max, ◌≤◌, ◌<◌, ◌≡◌, refl}
+use Rattle.std.proofs.Common.{arith, le_refl, ◌∙◌, eq-eqb, ne_eqb, le_antisymm, ap, ap₂}
 use Rattle.std.proofs.Math.Decide.{ℕ_discrete}
-use Rattle.std.specs.Prelude.{◌≡◌}
-use Rattle.std.proofs.Math.Path.{refl, ap, ap₂}
 use Rattle.definitions.specs.Sums.{sum, largest}
 use Rattle.definitions.specs.Chain.{Model, jump_rate, row_sum, uniform_rate, c, max_reward, jump_millionths, at_time, at_reward}
 use Rattle.definitions.specs.Level.{level}
@@ -38,7 +35,7 @@ module _ (a b : Model) (e : RaisedModel a b) where
   -- so are the row sums, E and c
   jump_kept : (i j : ℕ) → i < a.states → j < a.states → jump_rate a i j ≡ jump_rate b i j
   unfolding jump_rate
-  jump_kept i j li lj = elim (ℕ_discrete j i) [ yes same ↦ rw (eq-eqb j i same) refl | no other ↦ rw (ne_eqb j i other) (e.transition i j li lj other) ]
+  jump_kept i j li lj = grind arith
 
   pub sum_kept : (i : ℕ) → i < a.states → row_sum a i ≡ row_sum b i
   unfolding row_sum
@@ -64,18 +61,7 @@ module _ (a b : Model) (e : RaisedModel a b) where
 -- a raised model is raised at any other time
 pub raised_at : (a b : Model) → RaisedModel a b → (T : ℕ) → RaisedModel (at_time a T) (at_time b T)
 unfolding max_reward
-raised_at a b e T =
-    record {
-      states = e.states;
-      highest = e.highest;
-      tolerance = e.tolerance;
-      time = refl;
-      distributions = e.distributions;
-      start = e.start;
-      no_lower = e.no_lower;
-      not_past = e.not_past;
-      transition = e.transition;
-    }
+raised_at a b e T = grind arith
 
 -- a model with one reward rate from its own to the largest is raised
 pub one_raised : (m : Model) (i x : ℕ) → m.reward i ≤ x → x ≤ max_reward m → RaisedModel m (at_reward m i x)

@@ -1,13 +1,7 @@
 -- Practice files: the draws, the bytes of the file dealt, and that rows 1 to 12 and 16 do not stop it at its own time, where version 1 is admitted.
-use Prim.Native.Nat.{ℕ, zero, suc, ◌+◌, ◌*◌, ◌-◌, ◌/◌, ◌%◌, ◌≤◌, ◌<◌, ◌^◌}
-use native.Mathlib.Omega.{arith}
-use Rattle.std.proofs.Math.Nat.{mod-add-mod, mul-le-mul}
-use Rattle.std.proofs.Common.{add-zero, le_refl, add-one, ◌∙◌, eq-eqb, ne_eqb, le-ltb}
+use Rattle.std.specs.Prelude.{ℕ, zero, suc, ◌+◌, ◌*◌, ◌-◌, ◌/◌, ◌≤◌, ◌<◌, ◌≡◌, refl, false, ◌||◌, length, get_or, eqb, List, [], ◌∷◌, ◌++◌}
+use Rattle.std.proofs.Common.{arith, mul-le-mul, add-zero, le_refl, add-one, ◌∙◌, eq-eqb, ne_eqb, le-ltb, sym, ap, ap₂, append_assoc}
 use Rattle.std.proofs.Math.Decide.{ℕ_discrete}
-use Rattle.std.proofs.Math.Path.{◌≡◌, refl, sym, ap, ap₂}
-use Rattle.std.proofs.Math.Bool.{false}
-use Rattle.std.specs.Prelude.{◌||◌, length, get_or, eqb}
-use mathlib.Core.List.{List, [], ◌∷◌, ◌++◌, append_assoc}
 use Rattle.definitions.specs.declared.Header.{Header}
 use Rattle.definitions.specs.Sums.{firsts}
 use Rattle.definitions.specs.Bytes.{bytes_of}
@@ -17,7 +11,7 @@ use Rattle.definitions.specs.Rules.{Answer, accepted, refused, outside, dimensio
 use Rattle.definitions.specs.Moment.{run_of, outcome}
 use Rattle.definitions.specs.Fields.{Fields, words_of, fields_of, numbers_of, headed, header_of, file_of}
 use Rattle.definitions.specs.Practice.{next, stream, upper, draw, practice_fields, practice_file, practice, DealtWell}
-use Rattle.laws.specs.Rounding.{quotient_below, remainder_below}
+use Rattle.laws.specs.Rounding.{quotient_below}
 use Rattle.laws.specs.SumLaws.{sum_mono, sum_constant, le_largest, largest_le}
 use Rattle.laws.specs.ChainLaws.{other_version}
 use Rattle.laws.specs.ListLaws.{length_firsts, firsts_same}
@@ -30,14 +24,6 @@ use Rattle.laws.specs.MomentLaws.{outcome_accepted}
 use Rattle.laws.specs.WrittenLaws.{stopped_by_table, stopped_by_room, is_written, was_written}
 use Rattle.laws.specs.FieldLaws.{square, Fits, length_file, fields_of_file, states_of_file, highest_of_file, version_of_file}
 use Rattle.laws.specs.FileLaws.{tolerance_held, time_held, framing_passes, reward_held, rate_held}
-
--- cut after the product and after the sum is cut once
-pub next_in_parts : (previous factor product increment result : ℕ) → product ≡ previous * factor % 2 ^ 32 → result ≡ (product + increment) % 2 ^ 32 → factor ≡ 1664525 → increment ≡ 1013904223 → result ≡ next previous
-unfolding next
-next_in_parts previous factor product increment result p r f i =
-    r
-    ∙ ap₂ (λ (x y : ℕ). (x + y) % 2 ^ 32) (p ∙ ap (λ (k : ℕ). previous * k % 2 ^ 32) f) i
-    ∙ mod-add-mod (previous * 1664525) (2 ^ 32) 1013904223
 
 -- no step yet, and one step more
 pub stream_first : (seed : ℕ) → stream seed 0 ≡ seed
@@ -79,7 +65,7 @@ draw_later seed a k = let one : a + suc k ≡ suc (a + k) = omega arith in ap up
 -- a draw has 16 bits
 draw_max : (seed k : ℕ) → draw seed k ≤ 65535
 unfolding next stream upper draw
-draw_max seed k = omega (arith, quotient_below (next (stream seed k)) (2 ^ 16) (2 ^ 16) (remainder_below _ (2 ^ 32) (omega arith)))
+draw_max seed k = omega arith
 
 -- the fields dealt
 module _ (M R seed : ℕ) where
@@ -286,6 +272,4 @@ dealt_well M R seed lent = from (practice M R seed lent) refl
   where
     from : (a : Answer (List ℕ)) → practice M R seed lent ≡ a → DealtWell a M R seed
     from (refused k) e = tt
-    from (accepted file) e =
-        let told = was_written (dimensions M R) (practice_file M R seed) lent file e in
-        rw (← told.1) (record { states_fields = fields_dealt M R seed told.0; accepts = dealt_accepted M R seed told.0; has_figures = dealt_figures M R seed told.0 })
+    from (accepted file) e = grind (arith, was_written, fields_dealt, dealt_accepted, dealt_figures)

@@ -1,15 +1,15 @@
 -- What the divisions of U(n,r) leave: quotient, divisor and remainder of each, and when a call gives them.
-use Rattle.std.specs.Prelude.{ℕ, zero, suc, ◌+◌, ◌*◌, ◌-◌, ◌/◌, ◌%◌, ◌≤◌, ◌<◌, ◌≡◌, refl, Bool, true, false, ◌||◌, List, None, Some}
-use Rattle.std.proofs.Common.{arith, ap, ap₂}
+use Rattle.std.specs.Prelude.{ℕ, zero, suc, ◌+◌, ◌-◌, ◌≤◌, ◌<◌, ◌≡◌, refl, Bool, true, false, ◌||◌, List, None, Some}
+use Rattle.std.proofs.Common.{arith}
+use Rattle.std.proofs.lemmas.Bool.{or_parts}
 use Rattle.definitions.specs.declared.Rests.{Rests}
 use Rattle.definitions.specs.Chain.{Model, Chain, model_of, chain_of}
 use Rattle.definitions.specs.Rules.{Answer, accepted, refused, outside, file_rows, file_judgement}
-use Rattle.definitions.specs.Vectors.{row_total, row_mean, reward_product, reward_share, mixed, mix, next_entry, U}
+use Rattle.definitions.specs.Vectors.{row_mean, reward_share, mix, next_entry, U}
 use Rattle.definitions.specs.Moment.{model_level}
-use Rattle.definitions.specs.Remainders.{mean_dividend, share_dividend, mix_dividend, rests_in, rests_at, any_outside, rests_of, remainders_of, StepDivides, Worked, WorkedOut}
-use Rattle.laws.specs.Rounding.{divides}
+use Rattle.definitions.specs.Remainders.{rests_in, rests_at, any_outside, rests_of, remainders_of, StepDivides, Worked, WorkedOut}
 use Rattle.laws.specs.RuleLaws.{also_refused, also_accepted}
-use Rattle.laws.specs.RowLaws.{neither, in_range}
+use Rattle.laws.specs.RowLaws.{in_range}
 use Rattle.laws.specs.Acceptance.{AcceptedModel, accepted_model}
 use Rattle.laws.specs.ChainLaws.{SameChain}
 use Rattle.laws.specs.VectorLaws.{U_next, row_total_same, U_same}
@@ -18,20 +18,12 @@ use Rattle.laws.specs.VectorLaws.{U_next, row_total_same, U_same}
 U_entry : (ch : Chain) (n r i : ℕ) → 1 ≤ n → 1 ≤ r → U ch n r i ≡ next_entry ch n r (U ch (n - 1) r) (U ch n (r - 1)) i
 U_entry ch zero r i hn hr = absurd (omega arith)
 U_entry ch (suc n) zero i hn hr = absurd (omega arith)
-U_entry ch (suc n) (suc r) i hn hr = rw (less n, less r) (U_next ch n r i)
-  where
-    less : (k : ℕ) → suc k - 1 ≡ k
-    less k = omega arith
+U_entry ch (suc n) (suc r) i hn hr = grind (arith, U_next)
 
 -- a step's divisions: quotient × divisor + remainder is the dividend, the remainder is below the divisor, and the quotients are V, W and the next entry
 pub step_divides : (ch : Chain) (n r : ℕ) (before same : ℕ → ℕ) (i : ℕ) → 0 < ch.rate → 0 < ch.largest_reward → 0 < n + r → StepDivides ch n r before same i (next_entry ch n r before same i) (rests_in ch n r before same i)
 unfolding next_entry row_mean reward_share mix
-step_divides ch n r before same i rate_pos reward_pos some =
-    record {
-      mean = divides (row_total ch before i) ch.rate rate_pos;
-      share = divides (reward_product ch (same i) i) ch.largest_reward reward_pos;
-      mix = divides (mixed n r (row_mean ch before i) (reward_share ch (same i) i)) (n + r) some;
-    }
+step_divides ch n r before same i rate_pos reward_pos some = omega arith
 
 -- those of U(n,r)
 pub worked : (ch : Chain) (n r i : ℕ) → 0 < ch.rate → 0 < ch.largest_reward → 1 ≤ n → 1 ≤ r → Worked ch n r i (rests_at ch n r i)
@@ -45,16 +37,7 @@ same_rests x y p q r = λ k. record { mean = p k; share = q k; mix = r k }
 -- chains that agree at their states leave the same
 pub rests_same : (a b : Chain) → SameChain a b → (n r i : ℕ) → i < a.states → rests_at a n r i ≡ rests_at b n r i
 unfolding rests_at row_mean reward_share
-rests_same a b e n r i l = same_rests _ _ (ap₂ ◌%◌ total e.rate) (ap₂ ◌%◌ product e.largest_reward) (ap (λ (x : ℕ). x % (n + r)) sum)
-  where
-    total : mean_dividend a n r i ≡ mean_dividend b n r i
-    total = row_total_same a b (U a (n - 1) r) (U b (n - 1) r) i e l (U_same a b e (n - 1) r)
-
-    product : share_dividend a n r i ≡ share_dividend b n r i
-    product = ap₂ ◌*◌ (e.reward i l) (U_same a b e n (r - 1) i l)
-
-    sum : mix_dividend a n r i ≡ mix_dividend b n r i
-    sum = ap₂ (mixed n r) (ap₂ ◌/◌ total e.rate) (ap₂ ◌/◌ product e.largest_reward)
+rests_same a b e n r i l = grind (arith, row_total_same, U_same)
 
 -- outside their limits state, n and r have none
 pub rests_none : (m : Model) (state n r : ℕ) → any_outside m state n r ≡ true → rests_of m state n r ≡ None
@@ -86,8 +69,8 @@ pub record Inside (m : Model) (state n r : ℕ) : Type 0 where
 
 pub inside : (m : Model) (state n r : ℕ) → any_outside m state n r ≡ false → Inside m state n r
 inside m state n r h =
-    let two = neither (outside 1 m.states state || outside 1 (model_level m) n) (outside 1 m.highest r) h in
-    let one = neither (outside 1 m.states state) (outside 1 (model_level m) n) two.0 in
+    let two = or_parts (outside 1 m.states state || outside 1 (model_level m) n) (outside 1 m.highest r) h in
+    let one = or_parts (outside 1 m.states state) (outside 1 (model_level m) n) two.0 in
     let states = in_range 1 m.states state one.0 in
     let jumps = in_range 1 (model_level m) n one.1 in
     let moments = in_range 1 m.highest r two.1 in

@@ -1,8 +1,10 @@
 -- Quotient and remainder, argued once for any divisor: every other proof cites these. `a / 0` is 0, so a law that needs a divisor says `0 < c`.
 -- Assumes nothing.
-use Rattle.std.specs.Prelude.{◌≡◌, refl, ℕ, zero, suc, ◌+◌, ◌-◌, ◌*◌, ◌/◌, ◌%◌, ◌<◌, ◌≤◌}
-use Rattle.std.proofs.Common.{sym, ap, ap₂, div-mul-le_self, le-div_iff_mul-le, div-lt_iff_lt-mul, div-add-mod', mod-lt, mul-le-mul_right, arith}
-use Rattle.std.proofs.Math.Nat.{lt-div-mul-add, div-eq_of_lt-le, div-zero}
+use Rattle.std.specs.Prelude.{◌≡◌, ℕ, ◌+◌, ◌-◌, ◌*◌, ◌/◌, ◌%◌, ◌<◌, ◌≤◌, zero, suc}
+use Rattle.std.proofs.Common.{ap, ap₂, div-mul-le_self, div-add-mod', mod-lt, mul-le-mul_right, arith, le_refl}
+use Rattle.std.proofs.Math.Nat.{lt-div-mul-add, div-eq_of_lt-le, div-le_of_le-mul, div-zero}
+use Rattle.std.proofs.lemmas.Nat.{le-div, div-mul-add, mod-mul-add, row_below_turned}
+use Rattle.std.proofs.Math.Arith.{digits_lt}
 use Rattle.definitions.specs.declared.Division.{Division}
 use Rattle.definitions.specs.Division.{Divides, division}
 
@@ -16,13 +18,11 @@ quotient_high a c pos = omega (arith, lt-div-mul-add {a = a} pos)
 
 -- what is at most k divisors has a quotient of at most k
 pub quotient_at_most : (a k c : ℕ) → a ≤ k * c → a / c ≤ k
-quotient_at_most a k zero h = simp div-zero (omega arith)
-quotient_at_most a k (suc c) h =
-    omega (arith, (div-lt_iff_lt-mul {k = suc c} {x = a} {y = k + 1} (omega arith)).1 (omega arith))
+quotient_at_most a k c h = div-le_of_le-mul c (omega arith)
 
 -- what is at least k divisors has a quotient of at least k
 pub quotient_at_least : (a k c : ℕ) → 0 < c → k * c ≤ a → k ≤ a / c
-quotient_at_least a k c pos h = (le-div_iff_mul-le pos).1 h
+quotient_at_least a k c pos h = le-div k a c pos h
 
 -- a larger number has no smaller quotient
 pub quotient_mono : (a b c : ℕ) → a ≤ b → a / c ≤ b / c
@@ -35,8 +35,7 @@ quotient_unique a c q r rest whole = div-eq_of_lt-le c (omega arith) (omega arit
 
 -- what is below k divisors has a quotient below k
 pub quotient_below : (a k c : ℕ) → a < k * c → a / c < k
-quotient_below a k zero h = absurd (omega arith)
-quotient_below a k (suc c) h = (div-lt_iff_lt-mul {k = suc c} {x = a} {y = k} (omega arith)).1 h
+quotient_below a k c h = (row_below_turned a c k c h (le_refl c)).1
 
 -- the quotient's divisors and the remainder are the number
 pub quotient_remainder : (a c : ℕ) → a / c * c + a % c ≡ a
@@ -51,19 +50,15 @@ divides a c pos = record { whole = quotient_remainder a c; rest = remainder_belo
 
 -- a number of divisors with a rest below the divisor has that rest as its remainder
 pub remainder_unique : (a c q r : ℕ) → r < c → q * c + r ≡ a → a % c ≡ r
-remainder_unique a c q r rest whole =
-    omega (arith, quotient_remainder a c, ap (λ (n : ℕ). n * c) (quotient_unique a c q r rest whole))
+remainder_unique a c q r rest whole = grind arith
 
 -- two divisions with the same quotient and the same remainder
 pub same_parts : (d e : Division) → d.quotient ≡ e.quotient → d.remainder ≡ e.remainder → d ≡ e
-same_parts d e p q = ap₂ made p q
-  where
-    made : ℕ → ℕ → Division
-    made a b = record { quotient = a; remainder = b }
+same_parts d e p q = grind arith
 
 -- so where n by c is q, and r is left over, they are its quotient and remainder
 pub division_is : (n c q r : ℕ) → Divides n c q r → record { quotient = q; remainder = r } ≡ division n c
-division_is n c q r d = same_parts _ _ (sym (quotient_unique n c q r d.rest d.whole)) (sym (remainder_unique n c q r d.rest d.whole))
+division_is n c q r d = grind arith
 
 -- what a division hands back, for `ap`: its quotient and its remainder
 abbrev pub quotient : Division → ℕ
@@ -78,17 +73,17 @@ drops n c e pos = rw e (divides n c pos)
 
 -- from k divisors on, and below one more: the divisor goes k times into the number
 pub between_multiples : (a c k : ℕ) → k * c ≤ a → a < k * c + c → (a / c ≡ k) × (a % c ≡ a - k * c)
-between_multiples a c k low high = (quotient_unique a c k (a - k * c) (omega arith) (omega arith), remainder_unique a c k (a - k * c) (omega arith) (omega arith))
+between_multiples a c k low high = grind arith
 
 -- rows of c places, one after the other: place k of row i is place i × c + k, before the end of the last row
 pub row_of_place : (i k c : ℕ) → k < c → (i * c + k) / c ≡ i
-row_of_place i k c h = quotient_unique (i * c + k) c i k h refl
+row_of_place i k c h = div-mul-add i c k h
 
 pub place_in_row : (i k c : ℕ) → k < c → (i * c + k) % c ≡ k
-place_in_row i k c h = remainder_unique (i * c + k) c i k h refl
+place_in_row i k c h = mod-mul-add i c k h
 
 pub place_below : (i k rows c : ℕ) → i < rows → k < c → i * c + k < rows * c
-place_below i k rows c h l = omega (arith, mul-le-mul_right c h)
+place_below i k rows c h l = digits_lt h l
 
 -- a product by k × k, from both factors cut at k: what the lower parts carry goes to the middle products, and what these carry to the upper one
 pub divides_in_parts : (a b k : ℕ) → 0 < k →

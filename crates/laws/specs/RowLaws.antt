@@ -1,36 +1,18 @@
 -- The test of a number's limits, and single rows of the tables, from the numbers that they compare: 4 and 5, 8 and 15, of a list of times, 16, 9 to 13, and 17.
-use Rattle.std.specs.Prelude.{ℕ, zero, suc, ◌+◌, ◌-◌, ◌≤◌, ◌<◌, ◌≡◌, refl, Bool, true, false, ◌&&◌, ◌||◌, List, [], ◌∷◌, eqb, leb, ltb, length, get_or}
-use Rattle.std.proofs.Common.{arith, sym, ◌∙◌, ap₂, le-leb, lt-ltb, le-ltb, ltb-false, eqb-true}
+use Rattle.std.specs.Prelude.{ℕ, zero, suc, ◌+◌, ◌-◌, ◌≤◌, ◌<◌, ◌≡◌, refl, Bool, true, false, ◌||◌, List, eqb, leb, get_or, not}
+use Rattle.std.proofs.Common.{arith, ◌∙◌, ap₂, le-leb, lt-ltb, le-ltb, ap}
 use Rattle.std.proofs.Math.Decide.{dec_le}
-use Rattle.std.proofs.Math.Path.{ap}
-use Rattle.std.proofs.Math.Bool.{not, or-true}
-use Rattle.std.proofs.lemmas.Bool.{lt-leb, not-false}
+use Rattle.std.proofs.Math.Bool.{or-true}
 use Rattle.definitions.specs.Sums.{sum, largest, any_above}
 use Rattle.definitions.specs.File.{state_count, reward_field}
 use Rattle.definitions.specs.Chain.{Model, model_of, row_sum, uniform_rate, max_reward}
-use Rattle.definitions.specs.Rules.{accepted, refused, outside, dimensions, misweighted, starts_at_zero, falls_up_to, jumps, room, judged_by}
+use Rattle.definitions.specs.Rules.{accepted, refused, outside, dimensions, misweighted, falls_up_to, jumps, room, judged_by}
 use Rattle.laws.specs.SumLaws.{any_largest, le_largest, largest_le}
 use Rattle.laws.specs.RuleLaws.{row_stops, row_passes, none_left, NoneHold, none_hold}
 
--- neither of two tests holds
-pub neither : (a b : Bool) → (a || b) ≡ false → (a ≡ false) × (b ≡ false)
-neither true true h = absurd (let z : ◌≡◌ {A = ℕ} 0 1 = cc in omega arith)
-neither true false h = absurd (let z : ◌≡◌ {A = ℕ} 0 1 = cc in omega arith)
-neither false true h = absurd (let z : ◌≡◌ {A = ℕ} 0 1 = cc in omega arith)
-neither false false h = (refl, refl)
-
--- both of two tests hold
-pub both : (a b : Bool) → (a && b) ≡ true → (a ≡ true) × (b ≡ true)
-both true true h = (refl, refl)
-both true false h = absurd (let z : ◌≡◌ {A = ℕ} 0 1 = cc in omega arith)
-both false true h = absurd (let z : ◌≡◌ {A = ℕ} 0 1 = cc in omega arith)
-both false false h = absurd (let z : ◌≡◌ {A = ℕ} 0 1 = cc in omega arith)
-
 -- a number that is not outside is from low to high, and the other way about
 pub in_range : (low high x : ℕ) → outside low high x ≡ false → (low ≤ x) × (x ≤ high)
-in_range low high x h =
-    let both = neither (ltb x low) (ltb high x) h in
-    (ltb-false x low both.0, ltb-false high x both.1)
+in_range low high x h = grind arith
 
 pub is_inside : (low high x : ℕ) → low ≤ x → x ≤ high → outside low high x ≡ false
 is_inside low high x l h = ap₂ ◌||◌ (le-ltb x low l) (le-ltb high x h)
@@ -41,30 +23,21 @@ same_limit low high x e = ap (λ (k : ℕ). outside low k x) e
 
 -- what rows 4 and 5 let pass
 pub dimensions_by : (M R : ℕ) → NoneHold (dimensions M R) → ((1 ≤ M) × (M ≤ 64)) × ((1 ≤ R) × (R ≤ 8))
-dimensions_by M R row = (in_range 1 64 M row.0, in_range 1 8 R row.1.0)
+dimensions_by M R row = grind arith
 
 pub in_dimensions : (M R : ℕ) → judged_by (dimensions M R) ≡ accepted tt → ((1 ≤ M) × (M ≤ 64)) × ((1 ≤ R) × (R ≤ 8))
 in_dimensions M R passed = dimensions_by M R (none_hold (dimensions M R) (tt {0}) tt passed)
 
--- row 8: a list without a time, and one with a first time
-pub without_a_time : (t : List ℕ) → length t ≡ 0 → starts_at_zero t ≡ false
-without_a_time [] h = refl
-without_a_time (first ∷ later) h = absurd (omega arith)
-
-pub with_a_time : (t : List ℕ) → 0 < length t → starts_at_zero t ≡ eqb (get_or t 0 0) 0
-with_a_time [] h = absurd (omega arith)
-with_a_time (first ∷ later) h = refl
-
 -- row 16: a model without a starting distribution passes; with one it is the test of the weights' sum
 pub no_start : (m : Model) → m.distributions ≡ 0 → misweighted m ≡ false
-no_start m e = ap (λ (d : ℕ). ltb 0 d && not (eqb (sum m.states m.start) 1000000)) e
+no_start m e = grind arith
 
 pub with_start : (m : Model) → 0 < m.distributions → misweighted m ≡ not (eqb (sum m.states m.start) 1000000)
-with_start m h = ap (λ (b : Bool). b && not (eqb (sum m.states m.start) 1000000)) (lt-ltb 0 m.distributions h)
+with_start m h = grind arith
 
 -- where it passes, the weights of a starting distribution sum to 1,000,000
 pub weights_by : (m : Model) → misweighted m ≡ false → 0 < m.distributions → sum m.states m.start ≡ 1000000
-weights_by m h some = eqb-true (sum m.states m.start) 1000000 (not-false (eqb (sum m.states m.start) 1000000) (sym (with_start m some) ∙ h))
+weights_by m h some = grind arith
 
 -- row 15: no time is compared yet
 pub none_compared : (t : List ℕ) → falls_up_to 0 t ≡ false
@@ -74,10 +47,7 @@ none_compared t = refl
 -- one more time, above the one before it
 pub rises_to : (t : List ℕ) (k : ℕ) → 1 ≤ k → falls_up_to (k - 1) t ≡ false → get_or t (k - 1) 0 < get_or t k 0 → falls_up_to k t ≡ false
 unfolding falls_up_to
-rises_to t zero low before above = absurd (omega arith)
-rises_to t (suc n) low before above =
-    let same : suc n - 1 ≡ n = omega arith in
-    ap₂ (λ (a b : Bool). a || b) (rw same at before) (lt-leb (get_or t (suc n) 0) (get_or t n 0) (rw same at above))
+rises_to t k low before above = grind arith
 
 -- a time that is not above the one before it is found, however many are compared
 pub falls_at : (t : List ℕ) (k n : ℕ) → 1 ≤ k → k ≤ n → get_or t k 0 ≤ get_or t (k - 1) 0 → falls_up_to n t ≡ true

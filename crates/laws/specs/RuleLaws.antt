@@ -6,7 +6,7 @@ use Rattle.definitions.specs.Rules.{Answer, accepted, refused, Rows, first_held}
 
 -- an acceptance is no refusal, whatever their values
 pub accepted_is_no_refusal : {A : Type 0} (a : A) (k : ℕ) → accepted a ≡ refused k → ⊥
-accepted_is_no_refusal a k e = let z : ◌≡◌ {A = ℕ} 0 1 = cc in omega arith
+accepted_is_no_refusal a k e = cc
 
 -- a row that holds answers; past one that does not, the later rows answer
 pub row_stops : {A : Type 0} (k : ℕ) (b : Bool) (later : Rows) (a : A) → b ≡ true → first_held ((k, b) ∷ later) a ≡ refused k
@@ -35,15 +35,13 @@ and_then (accepted a) second = second
 and_then (refused k) second = refused k
 
 row_then : {A B : Type 0} (held : Bool) (k : ℕ) (first : Answer A) (second : Answer B) → pick held (refused k) (and_then first second) ≡ and_then (pick held (refused k) first) second
-row_then true k first second = refl
-row_then false k first second = refl
+row_then held k first second = grind arith
 
 -- a table in two parts: the first part's refusal, or what the second part answers
 pub in_parts : {A B : Type 0} (t u : Rows) (a : A) (b : B) → first_held (t ++ u) b ≡ and_then (first_held t a) (first_held u b)
 unfolding first_held
 in_parts [] u a b = refl
-in_parts (row ∷ later) u a b =
-    ap (pick row.1 (refused row.0)) (in_parts later u a b) ∙ row_then row.1 row.0 (first_held later a) (first_held u b)
+in_parts (row ∷ later) u a b = grind (arith, in_parts later u a b, row_then)
 
 -- with another value on acceptance a table refuses the same
 other_value : {A B : Type 0} (t : Rows) (a : A) (b : B) → first_held t b ≡ and_then (first_held t a) (accepted b)
@@ -68,8 +66,7 @@ none_hold [] a b h = tt
 none_hold (row ∷ later) a b h = (rejected row.1 refl, none_hold later a b (rw (rejected row.1 refl) at h))
   where
     rejected : (held : Bool) → row.1 ≡ held → row.1 ≡ false
-    rejected true e = absurd (let w = rw e at h in let z : ◌≡◌ {A = ℕ} 0 1 = cc in omega arith)
-    rejected false e = e
+    rejected held e = grind arith
 
 -- and what it is accepted with is the value given
 pub accepted_value : {A : Type 0} (t : Rows) (a b : A) → first_held t a ≡ accepted b → a ≡ b

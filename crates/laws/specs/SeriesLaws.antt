@@ -1,8 +1,6 @@
 -- Document 02, S-3: each level and each block of a series is that of a run of the file with that time alone. That demand 3 holds of it is shown in proofs/.
-use Rattle.std.specs.Prelude.{ℕ, ◌+◌, ◌*◌, ◌≤◌, ◌<◌, ◌^◌, ◌≡◌, refl, length, get_or, drop}
-use Rattle.std.proofs.Common.{arith, le_refl, mul-le-mul_right, sym, ◌∙◌, subst, length-drop, length-take-le, le-ltb, ne_eqb}
-use Rattle.std.proofs.Math.Path.{ap}
-use mathlib.Core.List.{List, [], ◌++◌}
+use Rattle.std.specs.Prelude.{ℕ, ◌+◌, ◌*◌, ◌≤◌, ◌<◌, ◌^◌, ◌≡◌, length, get_or, drop, List, [], ◌++◌}
+use Rattle.std.proofs.Common.{arith, le_refl, mul-le-mul_right, sym, ◌∙◌, subst, length-drop, length-take-le, le-ltb, ap}
 use Rattle.definitions.specs.Sums.{over}
 use Rattle.definitions.specs.Bytes.{big, bytes_of}
 use Rattle.definitions.specs.File.{state_count, tolerance_field, time_field, distributions, reward_field, rate_field, with_time}
@@ -70,7 +68,7 @@ module _ (s : List ℕ) (T : ℕ) where
 -- rows 7 to 11 and 16 pass without a list, with any time but 0, where they pass with the file's time and a list
 quantities_at : (m : Model) (times : List ℕ) (T : ℕ) → NoneHold (quantities m times) → 1 ≤ T → NoneHold (quantities (at_time m T) [])
 unfolding quantities jump_rate row_sum
-quantities_at m times T row low = (row.0, (rw (ne_eqb T 0 (λ e. omega arith)) refl, row.1.1))
+quantities_at m times T row low = grind arith
 
 module _ (s times : List ℕ) (levels cells : ℕ) (none : SeriesRows s times levels cells) (f : AcceptedSeries s times levels cells) (k : ℕ) (h : k < length times) where
   abbrev T : ℕ

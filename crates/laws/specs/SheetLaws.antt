@@ -1,13 +1,12 @@
 -- The printed sheet: a figure denotes its cell, the cells that the program lends are enough, and a file is shorter than what it reads.
 use Rattle.std.specs.Prelude.{ℕ, zero, suc, ◌+◌, ◌*◌, ◌-◌, ◌/◌, ◌%◌, ◌^◌, ◌≤◌, ◌<◌, ◌≡◌, refl, true, false, List, [], ◌∷◌, eqb, length}
-use Rattle.std.proofs.Common.{arith, pow-suc, mul-le-mul_right, sym, ◌∙◌, ap, le-leb, ne_eqb}
-use Rattle.definitions.specs.Rules.{Answer, accepted, refused, room, block_size, judged_by, file_judgement, judgement}
+use Rattle.std.proofs.Common.{arith, pow-suc, mul-le-mul_right, sym, ◌∙◌, ap, ne_eqb}
+use Rattle.definitions.specs.Rules.{accepted, block_size, file_judgement, judgement}
 use Rattle.definitions.specs.Vectors.{ONE}
 use Rattle.definitions.specs.Promise.{ticks}
 use Rattle.definitions.specs.Numeral.{is_digit, all_digits, value_of}
 use Rattle.definitions.specs.Sheet.{digit, digits, figure, before_point, after_point, ten_pos, decimal_of, Denotes, lent_cells, read_limit}
-use Rattle.laws.specs.Rounding.{quotient_remainder, quotient_below, remainder_below, remainder_unique}
-use Rattle.laws.specs.RuleLaws.{accepted_is_no_refusal, and_then}
+use Rattle.laws.specs.Rounding.{quotient_remainder, remainder_below, remainder_unique}
 use Rattle.laws.specs.RowLaws.{enough}
 use Rattle.laws.specs.Acceptance.{accepted_file, length_max, block_max, judgement_in_parts}
 
@@ -21,7 +20,7 @@ length_digits x (suc p) = ap suc (length_digits x p)
 -- a digit is a digit
 digit_is : (x p : ℕ) → is_digit (digit x p) ≡ true
 unfolding digit
-digit_is x p = rw (le-leb 48 (48 + x / 10 ^ p % 10) (omega arith), le-leb (48 + x / 10 ^ p % 10) 57 (omega (arith, remainder_below (x / 10 ^ p) 10 (omega arith)))) refl
+digit_is x p = grind arith
 
 all_digits_lem : (x p : ℕ) → all_digits (digits x p) ≡ true
 unfolding all_digits digits
@@ -51,7 +50,7 @@ no_point x p = ne_eqb (48 + x / 10 ^ p % 10) 46 (λ e. omega arith)
 -- below 10^13 the digit before the point is all that stands there
 first_worth : (x : ℕ) → x < 10 ^ 13 → value_of (digit x 12 ∷ []) ≡ x / 10 ^ 12
 unfolding value_of digit
-first_worth x h = omega (arith, remainder_unique (x / 10 ^ 12) 10 0 (x / 10 ^ 12) (quotient_below x 10 (10 ^ 12) (omega arith)) (omega arith))
+first_worth x h = omega arith
 
 -- the digits and the point of a figure, read as a decimal, are its ticks
 pub figure_denotes : (x : ℕ) → x ≤ ONE → Denotes (figure x) (ticks x)
@@ -67,11 +66,7 @@ figure_denotes x h =
 
 -- a file that is accepted with some cells passes rows 1 to 12 and 16
 file_accepted : (s : List ℕ) (cells : ℕ) → judgement s cells ≡ accepted tt → file_judgement 1 2 s ≡ accepted tt
-file_accepted s cells passed = from (file_judgement 1 2 s) (judgement_in_parts s cells)
-  where
-    from : (a : Answer (Unit {0})) → judgement s cells ≡ and_then a (judged_by (room (block_size s) cells)) → a ≡ accepted tt
-    from (accepted tt) e = refl
-    from (refused k) e = absurd (accepted_is_no_refusal tt k (sym passed ∙ e))
+file_accepted s cells passed = grind (arith, judgement_in_parts)
 
 pub cells_enough : (s : List ℕ) (cells : ℕ) → judgement s cells ≡ accepted tt → judgement s lent_cells ≡ accepted tt
 cells_enough s cells passed =

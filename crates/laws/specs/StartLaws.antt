@@ -1,10 +1,7 @@
 -- The start figure: in [0, 1]; as close to the weighted averages as a moment is to its own, and one tick; with all weight on one state that
 -- state's moment.
-use Prim.Native.Nat.{ℕ, zero, suc, ◌+◌, ◌*◌, ◌/◌, ◌≤◌, ◌<◌}
-use Rattle.std.proofs.Common.{arith, le_antisymm, mul-pos, mul-le-mul, le_of_mul-le-mul_right}
-use Rattle.std.proofs.Math.Nat.{mul-le-mul_left, mul-le-mul_right}
-use Rattle.std.specs.Prelude.{◌≡◌}
-use Rattle.std.proofs.Math.Path.{ap}
+use Rattle.std.specs.Prelude.{ℕ, zero, suc, ◌+◌, ◌*◌, ◌/◌, ◌≤◌, ◌<◌, ◌≡◌}
+use Rattle.std.proofs.Common.{arith, le_antisymm, mul-pos, mul-le-mul, le_of_mul-le-mul_right, mul-le-mul_left, mul-le-mul_right, ap}
 use Rattle.definitions.specs.Sums.{sum}
 use Rattle.definitions.specs.Chain.{Model}
 use Rattle.definitions.specs.Vectors.{ONE}

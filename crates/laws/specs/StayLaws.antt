@@ -1,19 +1,13 @@
 -- Stays (document 02, S-12): which are accepted, their tallies, and that no row of rates sums to more than 1,000,000.
-use Prim.Native.Nat.{ℕ, zero, suc, ◌+◌, ◌*◌, ◌-◌, ◌≤◌, ◌<◌}
-use native.Mathlib.Omega.{arith}
-use Rattle.std.proofs.Common.{div-mul-le_self, le_of_mul-le-mul_right, sym, ◌∙◌, take-take, eq-eqb, ne_eqb}
+use Rattle.std.specs.Prelude.{ℕ, zero, suc, ◌+◌, ◌*◌, ◌-◌, ◌≤◌, ◌<◌, List, [], ◌∷◌, false, ◌≡◌, refl, length, get_or, take}
+use Rattle.std.proofs.Common.{arith, le_of_mul-le-mul_right, sym, ◌∙◌, take-take, eq-eqb, ne_eqb, ap}
 use Rattle.std.proofs.Math.Decide.{ℕ_discrete}
-use mathlib.Core.List.{List, [], ◌∷◌}
-use Rattle.std.specs.Prelude.{false, ◌||◌, ◌≡◌, refl, length, get_or, eqb}
-use Rattle.std.proofs.Math.Path.{ap}
-use Rattle.std.proofs.Math.ListN.{take}
-use Rattle.std.proofs.lemmas.Bool.{eqb-false}
 use Rattle.definitions.specs.Sums.{sum}
-use Rattle.definitions.specs.Rules.{Answer, accepted, refused, outside}
+use Rattle.definitions.specs.Rules.{Answer, accepted, refused}
 use Rattle.definitions.specs.Stays.{Stay, no_pair, stay_rows, stay_answer, by_answer, taken, lasts, tally, goes, spends, count_in, hours_in, rate_of, rate_in}
 use Rattle.laws.specs.SumLaws.{sum_same, sum_mono, sum_plus, sum_none, sum_single, sum_times}
 use Rattle.laws.specs.RuleLaws.{none_hold}
-use Rattle.laws.specs.RowLaws.{neither, in_range, is_inside}
+use Rattle.laws.specs.RowLaws.{in_range}
 
 -- two different states from 1 to M
 pub record Pair (M i j : ℕ) : Type 0 where
@@ -26,15 +20,10 @@ pub record Pair (M i j : ℕ) : Type 0 where
 -- row 20 passes just these
 module _ (M i j : ℕ) where
   pub pair_by : no_pair M i j ≡ false → Pair M i j
-  pair_by h =
-      let parts = neither (outside 1 M i || outside 1 M j) (eqb i j) h in
-      let states = neither (outside 1 M i) (outside 1 M j) parts.0 in
-      let first = in_range 1 M i states.0 in
-      let second = in_range 1 M j states.1 in
-      record { from_low = first.0; from_high = first.1; to_low = second.0; to_high = second.1; apart = eqb-false i j parts.1 }
+  pair_by h = grind arith
 
   pub pair_passes : Pair M i j → no_pair M i j ≡ false
-  pair_passes h = rw (is_inside 1 M i h.from_low h.from_high) (rw (is_inside 1 M j h.to_low h.to_high) (ne_eqb i j h.apart))
+  pair_passes h = grind arith
 
 -- what a stay is that is accepted with M states
 pub record Fine (M : ℕ) (s : Stay) : Type 0 where
@@ -144,11 +133,7 @@ goes_here i j s a b = rw (eq-eqb _ _ a) (rw (eq-eqb _ _ b) refl)
 
 pub goes_else : (i j : ℕ) (s : Stay) → (s.from ≡ i → s.to ≡ j → ⊥) → goes i j s ≡ 0
 unfolding goes
-goes_else i j s ne =
-    elim (ℕ_discrete s.from i) [
-      | yes e ↦ rw (eq-eqb _ _ e) (rw (ne_eqb _ _ (ne e)) refl)
-      | no other ↦ rw (ne_eqb _ _ other) refl
-    ]
+goes_else i j s ne = grind arith
 
 pub spends_here : (i : ℕ) (s : Stay) → s.from ≡ i → spends i s ≡ s.hours
 unfolding spends
@@ -159,11 +144,7 @@ unfolding spends
 spends_else i s ne = rw (ne_eqb _ _ ne) refl
 
 pub goes_max : (i j : ℕ) (s : Stay) → goes i j s ≤ 1
-goes_max i j s =
-    elim (ℕ_discrete s.from i) [
-      | yes e ↦ elim (ℕ_discrete s.to j) [ yes f ↦ omega (arith, goes_here i j s e f) | no ne ↦ omega (arith, goes_else i j s (λ a b. ne b)) ]
-      | no ne ↦ omega (arith, goes_else i j s (λ a b. ne a))
-    ]
+goes_max i j s = grind (arith, goes_here, goes_else)
 
 pub spends_max : {M : ℕ} (i : ℕ) (s : Stay) → Fine M s → spends i s ≤ 10000
 spends_max i s fine = elim (ℕ_discrete s.from i) [ yes e ↦ omega (arith, spends_here i s e, fine.hours_high) | no ne ↦ omega (arith, spends_else i s ne) ]
@@ -178,11 +159,7 @@ to_one M i s fine =
 -- each stay has at least one hour: the counts out of a state are at most its hours
 module _ (M i : ℕ) where
   once : (j : ℕ) (s : Stay) → Fine M s → goes i j s ≤ spends i s
-  once j s fine =
-      elim (ℕ_discrete s.from i) [
-        | yes e ↦ omega (arith, goes_max i j s, spends_here i s e, fine.hours_low)
-        | no ne ↦ omega (arith, goes_else i j s (λ x y. ne x))
-      ]
+  once j s fine = grind (arith, goes_max, spends_here, goes_else)
 
   row_max : (l : List Stay) → AllFine M l → sum M (λ j. count_in i (suc j) l) ≤ hours_in i l
   row_max [] fine = omega (arith, sum_none M (λ j. count_in i (suc j) []) (λ j b. tally_none (goes i (suc j))))
@@ -211,11 +188,7 @@ module _ (M : ℕ) where
 
 -- a rate times the hours is at most the count times 1,000,000
 rate_times : (count hours : ℕ) → rate_of count hours * hours ≤ count * 1000000
-rate_times count hours =
-    elim (ℕ_discrete hours 0) [
-      | yes e ↦ rw (eq-eqb _ _ e) (omega arith)
-      | no ne ↦ rw (ne_eqb _ _ ne) (div-mul-le_self (count * 1000000) hours)
-    ]
+rate_times count hours = grind arith
 
 -- a quotient of 1,000,000 times no more than the hours by the hours is at most 1,000,000
 within : (count hours rate : ℕ) → count ≤ hours → rate * hours ≤ count * 1000000 → (hours ≡ 0 → rate ≡ 0) → rate ≤ 1000000

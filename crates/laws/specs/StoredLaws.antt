@@ -1,12 +1,7 @@
 -- Rows of places that are stored in one list, and what is read from it again.
-use Prim.Native.Nat.{ℕ, zero, suc, ◌+◌, ◌*◌, ◌≤◌, ◌<◌}
-use native.Mathlib.Omega.{arith}
-use Rattle.std.proofs.Math.Nat.{mul-le-mul_right}
-use Rattle.std.proofs.Math.Numerals.{add-one}
+use Rattle.std.specs.Prelude.{ℕ, zero, suc, ◌+◌, ◌*◌, ◌≤◌, ◌<◌, ◌≡◌, List, ◌++◌, length, get_or, take, drop, refl}
+use Rattle.std.proofs.Common.{arith, mul-le-mul_right, add-one, sym, ◌∙◌, ap, append_assoc, drop-drop}
 use Rattle.std.proofs.Math.Decide.{ℕ_discrete}
-use Rattle.std.specs.Prelude.{◌≡◌, List, ◌++◌, length, get_or, take, drop}
-use Rattle.std.proofs.Math.Path.{refl}
-use Rattle.std.proofs.Common.{sym, ◌∙◌, ap, append_assoc, drop-drop}
 use Rattle.std.proofs.lemmas.List.Edits.{sets, sets-eq}
 use Rattle.std.proofs.Math.Seq.{length-sets}
 use Rattle.definitions.specs.Sums.{firsts, over, rows_stored}
@@ -47,14 +42,7 @@ module _ (row : ℕ → List ℕ) (size : ℕ) (l : List ℕ) where
 -- a part of k entries from place a on, that was lent, filled up to n and put back: n entries are stored
 part_stored : (a k n : ℕ) (g : ℕ → ℕ) (l part : List ℕ) → a + n ≤ length l → n ≤ length (take k (drop a l)) → part ≡ over n g (take k (drop a l)) → take a l ++ (part ++ drop k (drop a l)) ≡ sets l a (firsts n g)
 unfolding over
-part_stored a k n g l part room whole filled =
-    ap (λ (x : List ℕ). take a l ++ (x ++ drop k (drop a l))) filled
-    ∙ put_back a k n g l whole
-    ∙ sym
-    (sets-eq (firsts n g) l a (omega (arith, room, length_firsts n g))
-    ∙ append_assoc (take a l) (firsts n g) (drop (a + length (firsts n g)) l)
-    ∙ ap (λ (m : ℕ). take a l ++ (firsts n g ++ drop (a + m) l)) (length_firsts n g)
-    ∙ ap (λ (x : List ℕ). take a l ++ (firsts n g ++ x)) (sym (drop-drop n a l)))
+part_stored a k n g l part room whole filled = grind (arith, put_back, sets-eq, length_firsts, append_assoc, drop-drop)
 
 -- so the next row is stored: one turn of a loop that lends each row its part
 pub row_back : (row : ℕ → List ℕ) (size i k n : ℕ) (g : ℕ → ℕ) (l now part : List ℕ) → now ≡ rows_stored row size i l → row i ≡ firsts n g → i * size + n ≤ length now → n ≤ length (take k (drop (i * size) now)) → part ≡ over n g (take k (drop (i * size) now)) → take (i * size) now ++ (part ++ drop k (drop (i * size) now)) ≡ rows_stored row size (i + 1) l

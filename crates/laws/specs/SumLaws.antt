@@ -1,6 +1,6 @@
 -- Sums, maxima and tests over 0 to n − 1.
-use Rattle.std.specs.Prelude.{ℕ, zero, suc, ◌+◌, ◌*◌, ◌-◌, ◌≤◌, ◌<◌, max, ◌≡◌, refl, Bool, true, false, ◌||◌, eqb, ltb}
-use Rattle.std.proofs.Common.{arith, sym, ◌∙◌, ap, ap₂, eq-eqb, ne_eqb, lt-ltb, le-ltb, ltb-true, ltb-false}
+use Rattle.std.specs.Prelude.{ℕ, zero, suc, ◌+◌, ◌*◌, ◌-◌, ◌≤◌, ◌<◌, max, ◌≡◌, refl, eqb, ltb}
+use Rattle.std.proofs.Common.{arith, sym, ◌∙◌, ap, ap₂, eq-eqb, ne_eqb, le-ltb, le_refl, add-zero, add-suc, add-one}
 use Rattle.std.proofs.Math.Decide.{ℕ_discrete}
 use Rattle.definitions.specs.Sums.{sum, largest, any_above, pick}
 
@@ -51,8 +51,8 @@ term_le_sum (suc n) f i l = elim (ℕ_discrete i n) [ yes e ↦ omega (arith, ap
 -- fewer terms, no larger sum
 pub sum_longer : (n k : ℕ) (f : ℕ → ℕ) → sum n f ≤ sum (n + k) f
 unfolding sum
-sum_longer n zero f = rw native.Mathlib.Nat.add-zero (native.Mathlib.Nat.le_refl _)
-sum_longer n (suc k) f = rw native.Mathlib.Nat.add-suc (omega (arith, sum_longer n k f))
+sum_longer n zero f = rw add-zero (le_refl _)
+sum_longer n (suc k) f = rw add-suc (omega (arith, sum_longer n k f))
 
 pub largest_zero : (f : ℕ → ℕ) → largest 0 f ≡ 0
 unfolding largest
@@ -83,22 +83,17 @@ largest_same (suc n) f g h = ap₂ max (largest_same n f g (λ i l. h i (omega a
 pub any_largest : (k n : ℕ) (f : ℕ → ℕ) → any_above k n f ≡ ltb k (largest n f)
 unfolding any_above largest
 any_largest k zero f = sym (le-ltb k 0 (omega arith))
-any_largest k (suc n) f = rw (any_largest k n f) (either (ltb k (largest n f)) (ltb k (f n)) refl refl)
-  where
-    either : (a b : Bool) → ltb k (largest n f) ≡ a → ltb k (f n) ≡ b → (ltb k (largest n f) || ltb k (f n)) ≡ ltb k (max (largest n f) (f n))
-    either true b p q = rw p (sym (lt-ltb k _ (omega (arith, ltb-true k (largest n f) p))))
-    either false true p q = rw (p, q) (sym (lt-ltb k _ (omega (arith, ltb-true k (f n) q))))
-    either false false p q = rw (p, q) (sym (le-ltb k _ (omega (arith, ltb-false k (largest n f) p, ltb-false k (f n) q))))
+any_largest k (suc n) f = grind (arith, any_largest k n f)
 
 -- a sum of n + k terms, the first n apart
 pub sum_split : (n k : ℕ) (f : ℕ → ℕ) → sum (n + k) f ≡ sum n f + sum k (λ j. f (n + j))
 unfolding sum
-sum_split n zero f = rw native.Mathlib.Nat.add-zero (omega arith)
-sum_split n (suc k) f = rw native.Mathlib.Nat.add-suc (omega (arith, sum_split n k f))
+sum_split n zero f = rw add-zero (omega arith)
+sum_split n (suc k) f = rw add-suc (omega (arith, sum_split n k f))
 
 -- one term more, as code counts
 pub sum_more : (n : ℕ) (f : ℕ → ℕ) → sum (n + 1) f ≡ sum n f + f n
-sum_more n f = ap (λ (m : ℕ). sum m f) (native.Mathlib.Numerals.add-one n) ∙ sum_suc n f
+sum_more n f = ap (λ (m : ℕ). sum m f) (add-one n) ∙ sum_suc n f
 
 -- part of a sum
 pub sum_part : (n k : ℕ) (f : ℕ → ℕ) → n ≤ k → sum n f ≤ sum k f

@@ -1,8 +1,6 @@
 -- The exact weights past a level that passes, summed to any later L, stay within S(N)·ε/10^9.
-use Prim.Native.Nat.{ℕ, zero, suc, ◌+◌, ◌*◌, ◌-◌, ◌/◌, ◌≤◌, ◌<◌}
-use Rattle.std.proofs.Common.{arith, mul-le-mul_left, mul-le-mul_right, le_of_mul-le-mul_right, le_of_lt, add-zero}
-use Rattle.std.specs.Prelude.{◌≡◌}
-use Rattle.std.proofs.Math.Path.{ap}
+use Rattle.std.specs.Prelude.{ℕ, zero, suc, ◌+◌, ◌*◌, ◌-◌, ◌/◌, ◌≤◌, ◌<◌, ◌≡◌}
+use Rattle.std.proofs.Common.{arith, mul-le-mul_left, mul-le-mul_right, le_of_mul-le-mul_right, le_of_lt, add-zero, ap}
 use Rattle.definitions.specs.Sums.{sum}
 use Rattle.definitions.specs.Weights.{GREATEST, MILLION, mode, weight, weight_sum}
 use Rattle.definitions.specs.Level.{BILLION, tail_bound, allowance, Passes}

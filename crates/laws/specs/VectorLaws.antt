@@ -13,8 +13,7 @@ use Rattle.laws.specs.ChainLaws.{SameChain, the_other_way, Raised, same_raised}
 -- U(n,0) is ONE everywhere
 pub U_zero : (ch : Chain) (n i : ℕ) → U ch n 0 i ≡ ONE
 unfolding U first_vectors next_vectors
-U_zero ch zero i = refl
-U_zero ch (suc n) i = refl
+U_zero ch n i = grind arith
 
 -- U(0,r) at i is f(i) × U(0,r−1) at i, over F, down
 pub U_first : (ch : Chain) (r i : ℕ) → U ch 0 (suc r) i ≡ reward_share ch (U ch 0 r i) i
@@ -71,9 +70,7 @@ U_bound_first ch s (suc r) i l = rw U_first (reward_share_bound ch (U ch 0 r i) 
 
 U_bound_next : (ch : Chain) → Stochastic ch → (n : ℕ) → ((r j : ℕ) → j < ch.states → U ch n r j ≤ ONE) → (r i : ℕ) → i < ch.states → U ch (suc n) r i ≤ ONE
 U_bound_next ch s n h zero i l = rw U_zero (omega arith)
-U_bound_next ch s n h (suc r) i l =
-    rw U_next
-    (next_entry_bound ch (suc n) (suc r) (U ch n (suc r)) (U ch (suc n) r) ONE i s l (h (suc r)) (U_bound_next ch s n h r i l))
+U_bound_next ch s n h (suc r) i l = grind (arith, U_bound_next ch s n h r i l, U_next, next_entry_bound)
 
 pub U_bound : (ch : Chain) → Stochastic ch → (n r i : ℕ) → i < ch.states → U ch n r i ≤ ONE
 U_bound ch s zero = U_bound_first ch s
@@ -81,9 +78,7 @@ U_bound ch s (suc n) = U_bound_next ch s n (U_bound ch s n)
 
 -- every step is monotone: from no lower vectors, on a chain that is no lower, it makes no lower numbers
 row_total_mono : (a b : Chain) (v w : ℕ → ℕ) (i : ℕ) → Raised a b → i < a.states → ((j : ℕ) → j < a.states → v j ≤ w j) → row_total a v i ≤ row_total b w i
-row_total_mono a b v w i e l h =
-    le_trans (sum_mono a.states (λ j. a.entry i j * v j) (λ j. b.entry i j * w j) (λ j k. mul-le-mul (e.entry i j l k) (h j k)))
-    (rw e.states (le_refl _))
+row_total_mono a b v w i e l h = grind (arith, sum_mono, mul-le-mul)
 
 pub row_mean_mono : (a b : Chain) (v w : ℕ → ℕ) (i : ℕ) → Raised a b → i < a.states → ((j : ℕ) → j < a.states → v j ≤ w j) → row_mean a v i ≤ row_mean b w i
 unfolding row_mean
@@ -107,9 +102,7 @@ U_mono_first a b e (suc r) i l = rw (U_first a, U_first b) (reward_share_mono a 
 
 U_mono_next : (a b : Chain) → Raised a b → (n : ℕ) → ((r j : ℕ) → j < a.states → U a n r j ≤ U b n r j) → (r i : ℕ) → i < a.states → U a (suc n) r i ≤ U b (suc n) r i
 U_mono_next a b e n h zero i l = rw (U_zero a, U_zero b) (le_refl ONE)
-U_mono_next a b e n h (suc r) i l =
-    rw (U_next a, U_next b)
-    (next_entry_mono a b (suc n) (suc r) (U a n (suc r)) (U b n (suc r)) (U a (suc n) r) (U b (suc n) r) i e l (h (suc r)) (U_mono_next a b e n h r i l))
+U_mono_next a b e n h (suc r) i l = grind (arith, U_mono_next a b e n h r i l, U_next, next_entry_mono)
 
 -- so a chain that is no lower has no lower U, whatever its rows sum to
 pub U_mono : (a b : Chain) → Raised a b → (n r i : ℕ) → i < a.states → U a n r i ≤ U b n r i
@@ -118,14 +111,10 @@ U_mono a b e (suc n) = U_mono_next a b e n (U_mono a b e n)
 
 -- the row total, the next entry and U read a chain at its states alone: on chains that agree there each is at most the other
 pub row_total_same : (a b : Chain) (v w : ℕ → ℕ) (i : ℕ) → SameChain a b → i < a.states → ((j : ℕ) → j < a.states → v j ≡ w j) → row_total a v i ≡ row_total b w i
-row_total_same a b v w i e l h =
-    le_antisymm (row_total_mono a b v w i (same_raised a b e) l (λ j k. omega (arith, h j k)))
-    (row_total_mono b a w v i (same_raised b a (the_other_way a b e)) (omega (arith, e.states)) (λ j k. omega (arith, h j (omega (arith, e.states)))))
+row_total_same a b v w i e l h = grind (arith, row_total_mono)
 
 pub next_entry_same : (a b : Chain) (n r : ℕ) (v w x y : ℕ → ℕ) (i : ℕ) → SameChain a b → i < a.states → ((j : ℕ) → j < a.states → v j ≡ w j) → x i ≡ y i → next_entry a n r v x i ≡ next_entry b n r w y i
-next_entry_same a b n r v w x y i e l h q =
-    le_antisymm (next_entry_mono a b n r v w x y i (same_raised a b e) l (λ j k. omega (arith, h j k)) (omega (arith, q)))
-    (next_entry_mono b a n r w v y x i (same_raised b a (the_other_way a b e)) (omega (arith, e.states)) (λ j k. omega (arith, h j (omega (arith, e.states)))) (omega (arith, q)))
+next_entry_same a b n r v w x y i e l h q = grind (arith, next_entry_mono)
 
 pub U_same : (a b : Chain) → SameChain a b → (n r i : ℕ) → i < a.states → U a n r i ≡ U b n r i
 U_same a b e n r i l = le_antisymm (U_mono a b (same_raised a b e) n r i l) (U_mono b a (same_raised b a (the_other_way a b e)) n r i (omega (arith, e.states)))

@@ -1,12 +1,9 @@
 -- The weights' error. The exact weights of 0 to L are put over one common divisor, where they are the whole numbers z(0), …, z(L).
 -- Then w(n)·z(m) ≤ 10^15·z(n) ≤ (w(n) + |n − m|)·z(m), and the exact weights past the level stay within the tolerance.
-use Prim.Native.Nat.{ℕ, zero, suc, ◌+◌, ◌*◌, ◌-◌, ◌/◌, ◌≤◌, ◌<◌}
-use native.Mathlib.Omega.{arith}
-use Rattle.std.proofs.Common.{mul-le-mul_left, mul-le-mul_right, le_of_mul-le-mul_right, mul_assoc, le_of_lt, add-one, sym, ◌∙◌}
-use Rattle.std.proofs.Math.Nat.{mul-pos, add-suc, add-zero, sub-zero}
+use Rattle.std.specs.Prelude.{ℕ, zero, suc, ◌+◌, ◌*◌, ◌-◌, ◌/◌, ◌≤◌, ◌<◌, ◌≡◌}
+use Rattle.std.proofs.Common.{arith, mul-le-mul_left, mul-le-mul_right, le_of_mul-le-mul_right, mul_assoc, le_of_lt, add-one, sym, ◌∙◌, mul-pos, add-suc, add-zero, ap}
+use Rattle.std.proofs.Math.Nat.{sub-zero}
 use Rattle.std.proofs.Math.Decide.{dec_le}
-use Rattle.std.specs.Prelude.{◌≡◌}
-use Rattle.std.proofs.Math.Path.{ap}
 use Rattle.definitions.specs.Weights.{GREATEST, MILLION, mode, weight}
 use Rattle.definitions.specs.Fraction.{ratio, power}
 use Rattle.definitions.specs.Average.{factorial, exact_weight, million_pos}

@@ -1,12 +1,8 @@
 -- The Poisson weights: the paper's steps away from m, their range, and where they are 0.
-use Prim.Native.Nat.{ℕ, zero, suc, ◌+◌, ◌*◌, ◌-◌, ◌/◌, ◌^◌, ◌≤◌, ◌<◌}
-use native.Mathlib.Omega.{arith}
-use Rattle.std.proofs.Common.{le_of_mul-le-mul_right, mul-le-mul_left, mul-le-mul_right, le_refl, pow-suc, add-zero, add-suc, sym, ◌∙◌, lt-ltb, le-ltb}
+use Rattle.std.specs.Prelude.{ℕ, zero, suc, ◌+◌, ◌*◌, ◌-◌, ◌/◌, ◌^◌, ◌≤◌, ◌<◌, ◌≡◌}
+use Rattle.std.proofs.Common.{arith, le_of_mul-le-mul_right, mul-le-mul_left, mul-le-mul_right, le_refl, pow-suc, add-zero, add-suc, sym, ◌∙◌, lt-ltb, le-ltb, add-one, ap, ap₂}
 use Rattle.std.proofs.Math.Nat.{sub_self}
-use Rattle.std.proofs.Math.Numerals.{add-one}
 use Rattle.std.proofs.Math.Decide.{dec_lt, dec_le}
-use Rattle.std.specs.Prelude.{◌≡◌}
-use Rattle.std.proofs.Math.Path.{ap, ap₂}
 use Rattle.definitions.specs.Sums.{sum}
 use Rattle.definitions.specs.Weights.{GREATEST, MILLION, mode, rightward, leftward, weight, weight_sum}
 use Rattle.laws.specs.Rounding.{quotient_low, quotient_high, quotient_at_most}
@@ -65,9 +61,7 @@ module _ (X : ℕ) where
 
       from : Dec (n + 1 < mode X) → leftward X (mode X - (n + 1)) ≡ weight X (n + 1)
       from (yes l) = sym (left_of (n + 1) l)
-      from (no l) =
-          let end : n + 1 ≡ mode X = omega (arith, l) in
-          rw (end, sub_self, weight_mode)
+      from (no l) = grind (arith, sub_self, weight_mode)
 
   -- away from m the weights do not rise
   pub falls_right : (n : ℕ) → mode X ≤ n → weight X (n + 1) ≤ weight X n
@@ -92,9 +86,7 @@ module _ (X : ℕ) where
 
   rises_far : (n k : ℕ) → n + k ≤ mode X → weight X n ≤ weight X (n + k)
   rises_far n zero h = rw add-zero (le_refl (weight X n))
-  rises_far n (suc k) h =
-      let next : weight X (n + k) ≤ weight X (n + k + 1) = falls_left (n + k) (omega arith) in
-      rw (add-suc, ← add-one) (omega (arith, rises_far n k (omega arith)))
+  rises_far n (suc k) h = grind (arith, rises_far n k, falls_left, add-suc, add-one)
 
   -- no weight is above 10^15
   pub weight_max : (n : ℕ) → weight X n ≤ GREATEST

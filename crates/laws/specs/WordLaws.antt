@@ -1,12 +1,11 @@
 -- Numbers and lists of numbers as bytes: what is read is what was written, and what is written is what was read.
-use Rattle.std.specs.Prelude.{ℕ, zero, suc, ◌+◌, ◌*◌, ◌/◌, ◌%◌, ◌≤◌, ◌<◌, ◌^◌, ◌≡◌, List, [], ◌∷◌, ◌++◌, length, get_or, take, drop}
+use Rattle.std.specs.Prelude.{ℕ, zero, suc, ◌+◌, ◌*◌, ◌/◌, ◌%◌, ◌≤◌, ◌<◌, ◌^◌, ◌≡◌, List, [], ◌∷◌, ◌++◌, length, get_or, take, drop, refl}
 use Rattle.std.proofs.Common.{arith, add-one, sym, ◌∙◌, ap, ap₂, append_assoc, append-nil, length-append, length-drop, take-suc, take-add, drop-drop, get_or-drop}
-use Rattle.std.proofs.Math.Path.{refl}
 use Rattle.definitions.specs.Sums.{firsts}
 use Rattle.definitions.specs.Bytes.{big, bytes_of}
 use Rattle.definitions.specs.Fields.{numbers_at, words_of}
-use Rattle.laws.specs.Rounding.{quotient_unique, remainder_unique, remainder_below}
-use Rattle.laws.specs.ListLaws.{length_firsts, firsts_same}
+use Rattle.laws.specs.Rounding.{quotient_unique, remainder_unique}
+use Rattle.laws.specs.ListLaws.{length_firsts}
 use Rattle.laws.specs.ByteLaws.{length_bytes, big_of_bytes, big_below}
 use Rattle.laws.specs.BlockLaws.{firsts_further}
 
@@ -14,9 +13,7 @@ use Rattle.laws.specs.BlockLaws.{firsts_further}
 pub part_listed : (n at : ℕ) (s : List ℕ) → at + n ≤ length s → firsts n (λ i. get_or s (at + i) 0) ≡ take n (drop at s)
 unfolding firsts
 part_listed zero at s room = refl
-part_listed (suc n) at s room =
-    ap₂ (λ (l : List ℕ) (b : ℕ). l ++ (b ∷ [])) (part_listed n at s (omega arith)) (sym (get_or-drop at s n 0))
-    ∙ sym (take-suc (drop at s) n 0 (omega (arith, room, length-drop at s)))
+part_listed (suc n) at s room = grind (arith, part_listed n, get_or-drop, take-suc, length-drop)
 
 -- the bytes of a number that was read are the entries that it was read from
 pub bytes_listed : (width at : ℕ) (s : List ℕ) → ((i : ℕ) → get_or s i 0 < 256) → bytes_of width (big width s at) ≡ firsts width (λ i. get_or s (at + i) 0)
@@ -42,10 +39,7 @@ length_numbers s at n = length_firsts n (λ k. big 4 s (at + 4 * k))
 -- numbers in two runs, one after the other
 pub numbers_further : (s : List ℕ) (at a b : ℕ) → numbers_at s at (a + b) ≡ numbers_at s at a ++ numbers_at s (at + 4 * a) b
 unfolding numbers_at
-numbers_further s at a b =
-    firsts_further a b (λ k. big 4 s (at + 4 * k))
-    ∙ ap (λ (l : List ℕ). firsts a (λ k. big 4 s (at + 4 * k)) ++ l)
-    (firsts_same b (λ k. big 4 s (at + 4 * (a + k))) (λ k. big 4 s (at + 4 * a + 4 * k)) (λ k h. ap (big 4 s) (omega arith)))
+numbers_further s at a b = grind (arith, firsts_further)
 
 one_number : (s : List ℕ) (at : ℕ) → numbers_at s at 1 ≡ big 4 s at ∷ []
 unfolding numbers_at firsts
@@ -113,11 +107,7 @@ below_append k (x ∷ a) b p q (suc i) = below_append k a b (λ j. p (suc j)) q 
 pub bytes_below : (width n i : ℕ) → get_or (bytes_of width n) i 0 < 256
 unfolding bytes_of
 bytes_below zero n i = omega arith
-bytes_below (suc width) n i = below_append 256 (bytes_of width (n / 256)) (n % 256 ∷ []) (bytes_below width (n / 256)) last i
-  where
-    last : (j : ℕ) → get_or (n % 256 ∷ []) j 0 < 256
-    last zero = remainder_below n 256 (omega arith)
-    last (suc j) = omega arith
+bytes_below (suc width) n i = grind (arith, bytes_below width (n / 256), below_append)
 
 pub words_below : (l : List ℕ) (i : ℕ) → get_or (words_of l) i 0 < 256
 unfolding words_of
@@ -128,11 +118,7 @@ words_below (x ∷ later) i = below_append 256 (bytes_of 4 x) (words_of later) (
 pub firsts_below : (k n : ℕ) (f : ℕ → ℕ) → ((i : ℕ) → f i < k) → (i : ℕ) → get_or (firsts n f) i 0 < k
 unfolding firsts
 firsts_below k zero f p i = omega (arith, p 0)
-firsts_below k (suc n) f p i = below_append k (firsts n f) (f n ∷ []) (firsts_below k n f p) last i
-  where
-    last : (j : ℕ) → get_or (f n ∷ []) j 0 < k
-    last zero = p n
-    last (suc j) = omega (arith, p 0)
+firsts_below k (suc n) f p i = grind (arith, firsts_below k n f p, below_append)
 
 -- numbers that were read from bytes fit their bytes
 pub numbers_below : (s : List ℕ) (at n : ℕ) → ((i : ℕ) → get_or s i 0 < 256) → (i : ℕ) → get_or (numbers_at s at n) i 0 < 2 ^ 32
