@@ -51,6 +51,7 @@ fn power(p: usize) -> u64
 }
 
 // The byte of the decimal digit of x that counts 10 to the p.
+#[tactic(auto, using(definitions::specs::Sheet::ten_pos), unfolding(definitions::specs::Sheet::digit))]
 fn digit_at(x: u64, p: usize) -> u8
     requires { p < 20 }
     ensures { result ≡ digit x p }
@@ -69,6 +70,7 @@ fn put_digits(pen: &mut Pen, x: u64, p: usize)
 }
 
 // How many digits x has in decimal: one more than the highest power of ten that is not above it.
+#[tactic(auto, using(crate::specs::TextLaws::places_none, crate::specs::TextLaws::places_here, crate::specs::TextLaws::places_below))]
 fn places_of(x: u64) -> usize
     ensures { result ≡ places x 19 }
 {

@@ -72,6 +72,7 @@ impl Pen<'_> {
 }
 
 // The byte of n that counts 256 to the p.
+#[tactic(auto, using(crate::specs::TextLaws::bits_of_bytes))]
 fn byte_at(n: u64, p: usize) -> u8
     requires { p < 8 }
     ensures { result ≡ n / 256 ^ p % 256 }
