@@ -196,7 +196,8 @@ impl<'a> ModelFile<'a> {
 
     // Where the reward rates start: after M weights for each starting distribution.
     fn rewards_at(&self) -> usize
-        ensures { result ≡ rewards_at self.now }
+        ensures value { result ≡ rewards_at self.now }
+        ensures most { result ≤ 269 }
     {
         let weights = self.head.distributions() * self.head.state_count();
         WEIGHTS_AT + 4 * weights
@@ -260,7 +261,7 @@ impl<'a> ModelFile<'a> {
         requires { i < state_count self.now }
         ensures { result.now ≡ drop (row_at self.now i) self.now }
     {
-        &self.head.bytes[self.row_at(i)..]
+        &self.bytes()[self.row_at(i)..]
     }
 
     // The rates of row i for 64 states: 0 at i itself and past M.

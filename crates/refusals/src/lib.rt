@@ -5,7 +5,7 @@
 // as a framed file, so that the crate reader can read what it states.
 #![tactic(auto)]
 
-ghost use Rattle.std.specs.Prelude.{◌≡◌, ◌||◌, ◌++◌, ◌-◌, ◌*◌, ◌≤◌, ◌<◌, ◌^◌, eqb, length, IfOk};
+ghost use Rattle.std.specs.Prelude.{◌≡◌, ltb, ◌||◌, ◌++◌, ◌-◌, ◌*◌, ◌≤◌, ◌<◌, ◌^◌, eqb, length, IfOk};
 ghost use Rattle.definitions.specs.File.{state_count, highest_moment, time_field};
 ghost use Rattle.definitions.specs.Chain.{model_of, uniform_rate};
 ghost use Rattle.definitions.specs.Rules.{outside, state_row, dimensions, fitting_length, framing, misweighted, starts_at_zero, quantities, falls_up_to, listing, last_time, jumps, room, block_size, first_held, judged_by, file_judgement, judgement, series_judgement, answer_of, saying};
@@ -199,7 +199,11 @@ pub fn judge(bytes: &[u8], cells: usize) -> Result<ModelFile, Refusal>
 fn falls(times: &[u32]) -> bool
     ensures { result ≡ falls_up_to (length times.now - 1) times.now }
 {
-    !times.is_sorted_by(|earlier, later| earlier < later)
+    !times.is_sorted_by(
+        |earlier, later|
+            ensures { result ≡ ltb earlier.now later.now }
+        { earlier < later },
+    )
 }
 
 // Rows 14, 15, 12 and 13: the list of times, then the jumps up to its last one, and the room for a block

@@ -12,7 +12,7 @@ pub returns-in_err-file-clause-judged : goal.returns-in_err-file-clause-judged
 returns-in_err-file-clause-judged c =
     let args = c.args in
     let gave : c.from_residual.result ≡ Err c.in_err-file.field-0.0 = search rules in
-    let judged : c.judge_file.result ≡ Err c.in_err-file.field-0.0 = search rules in
+    let judged : c.judge_file.result ≡ Err c.in_err-file.field-0.0 = c.in_err-file.was in
     rw gave (sym (judgement_in_parts args.bytes.now args.cells ∙ rw (sym (rw judged at c.judge_file.ensures.judged)) refl))
 
 pub judge_room-requires : goal.judge_room-requires

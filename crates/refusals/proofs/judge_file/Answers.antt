@@ -1,12 +1,13 @@
 -- `refusals::judge_file` meets its contract: the rows that all calls share, then the jumps. Assumes nothing.
 use mathlib.Core.Path.{◌≡◌, refl, ◌∙◌, sym}
-use mathlib.Core.List.{List, []}
+use mathlib.Core.List.{List, [], ◌++◌}
 use native.Mathlib.Omega.{arith}
 use Rattle.std.specs.Prelude.{Err, ℕ}
 use Rattle.std.proofs.Common.{rules}
 use Rattle.definitions.specs.File.{time_field}
 use Rattle.definitions.specs.Chain.{model_of, uniform_rate}
-use Rattle.definitions.specs.Rules.{jumps, judged_by, file_judgement}
+use Rattle.definitions.specs.Refusal.{row_of}
+use Rattle.definitions.specs.Rules.{refused, first_held, framing, quantities, jumps, judged_by, file_judgement}
 use Rattle.laws.specs.RowLaws.{same_jumps}
 use Rattle.laws.specs.Acceptance.{rateable, file_in_parts}
 use Rattle.refusals.proofs.judge_file.Goals as goal
@@ -16,7 +17,9 @@ pub returns-in_err-file-clause-judged : goal.returns-in_err-file-clause-judged
 returns-in_err-file-clause-judged c =
     let args = c.args in
     let gave : c.from_residual.result ≡ Err c.in_err-file.field-0.0 = search rules in
-    rw gave (sym (file_in_parts args.low args.high args.bytes.now ∙ rw (sym c.in_err-file.ensures.rated) refl))
+    let s = args.bytes.now in
+    let stopped : refused (row_of c.in_err-file.field-0.0) ≡ first_held (framing args.low args.high s ++ quantities (model_of s) []) (uniform_rate (model_of s)) = c.in_err-file.ensures.rated in
+    rw gave (sym (file_in_parts args.low args.high s ∙ rw (sym stopped) refl))
 
 pub judge_jumps-requires : goal.judge_jumps-requires
 judge_jumps-requires c =

@@ -11,7 +11,7 @@ pub returns-in_err-file-clause-rated : goal.returns-in_err-file-clause-rated
 returns-in_err-file-clause-rated c =
     let s = c.args.bytes.now in
     let gave : c.from_residual.result ≡ Err c.in_err-file.field-0.0 = search rules in
-    let framed : c.judge_framing.result ≡ Err c.in_err-file.field-0.0 = search rules in
+    let framed : c.judge_framing.result ≡ Err c.in_err-file.field-0.0 = c.in_err-file.was in
     rw gave (first_refuses (framing c.args.low c.args.high s) (quantities (model_of s) c.args.times.now) tt (uniform_rate (model_of s)) _ (rw framed at c.judge_framing.ensures.judged))
 
 pub returns-in_err-rate-clause-rated : goal.returns-in_err-rate-clause-rated

@@ -28,3 +28,9 @@ overflow_mul-result c = omega (arith, few c)
 
 pub returns-clause-most : goal.returns-clause-most
 returns-clause-most c = few (goal.at.returns-clause-most c).After-highest_moment
+
+-- this one makes the refusal of a wrong count say where it fails
+pub returns-clause-value : goal.returns-clause-value
+returns-clause-value c =
+    let is : c.self.inside.head ≡ c.args.self.now = c.self.view_is in
+    ap₂ ◌*◌ (ap₂ ◌+◌ (rw is at c.state_count.ensures) (rw is at c.distributions.ensures)) (rw is at c.highest_moment.ensures)

@@ -17,3 +17,6 @@ overflow_mul-result c = omega (arith, most c)
 
 pub overflow_add-result : goal.overflow_add-result
 overflow_add-result c = omega (arith, most c)
+
+pub returns-clause-most : goal.returns-clause-most
+returns-clause-most c = omega (arith, most c)

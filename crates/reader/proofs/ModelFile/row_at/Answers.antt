@@ -15,7 +15,7 @@ module _ (c : After-rewards_at) where
   value : c.rewards_at.result + 4 * c.state_count-states.result + 4 * (c.state_count-states.result - 1) * c.args.i ≡ row_at c.args.self.now c.args.i
   value =
       let i = c.args.i in
-      ap₂ (λ (a M : ℕ). a + 4 * M + 4 * (M - 1) * i) c.rewards_at.ensures (rw is at c.state_count-states.ensures)
+      ap₂ (λ (a M : ℕ). a + 4 * M + 4 * (M - 1) * i) c.rewards_at.ensures.value (rw is at c.state_count-states.ensures)
 
   inside : c.rewards_at.result + 4 * c.state_count-states.result + 4 * (c.state_count-states.result - 1) * c.args.i ≤ 16653
   inside =

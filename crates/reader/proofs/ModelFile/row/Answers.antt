@@ -1,0 +1,8 @@
+-- `search` would prove it with no file; this one makes the refusal of a wrong row say where it fails.
+use mathlib.Core.Path.{◌∙◌, ap₂}
+use borrow.Author.Rules.{part_to_end}
+use lib.ListN.{drop}
+use Rattle.reader.proofs.ModelFile.row.Goals as goal
+
+pub returns : goal.returns
+returns c = part_to_end c.bytes.result.now c.row_at.result ∙ ap₂ drop c.row_at.ensures c.bytes.ensures.same
