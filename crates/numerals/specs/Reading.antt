@@ -21,10 +21,6 @@ pub record Read (text : List ℕ) (i value : ℕ) : Type 0 where
   pub digits : all_digits text ≡ all_digits (drop i text)
   pub worth : value_of text ≡ value * 10 ^ length (drop i text) + value_of (drop i text)
 
--- before the first byte
-pub unread : (text : List ℕ) → Read text 0 0
-unread text = record { digits = refl; worth = omega arith }
-
 -- the text from byte i on: that byte, and the rest
 from : (text : List ℕ) (i : ℕ) → i < length text → drop i text ≡ get_or text i 0 ∷ drop (i + 1) text
 from text i h = rw (add-one i) (drop-cons text i 0 h)

@@ -3,8 +3,8 @@ use Rattle.std.specs.Prelude.{◌≡◌, refl, List, [], ◌∷◌, ◌++◌, �
 use Rattle.std.proofs.Common.{◌∙◌, sym, ap, suc-add, add-suc, add-zero, zero-add, add-one, arith, length-append}
 use Rattle.std.proofs.lemmas.List.Edits.{sets, sets-eq}
 use Rattle.std.proofs.lemmas.Slice.{put_mid-paste}
-use borrow.Rule.Slice.PartMut.{put_mid}
 use Rattle.std.proofs.Math.Seq.{length-sets, take-length}
+use borrow.Rule.Slice.PartMut.{put_mid}
 use Rattle.definitions.specs.Written.{written}
 use Rattle.writing.specs.declared.Pen.{Pen}
 use Rattle.writing.specs.Printed.{Printed}

@@ -1,8 +1,8 @@
 -- `weight_elsewhere` meets its contract. Assumes nothing.
-use Rattle.std.proofs.Common.{◌≡◌, ◌<◌, ◌≤◌, ◌∙◌, ap, rules, arith}
+use Rattle.std.specs.Prelude.{◌≡◌, ◌<◌, ◌≤◌}
+use Rattle.std.proofs.Common.{◌∙◌, ap, rules, arith, tests}
 use Rattle.std.proofs.lemmas.Iterator.{cases_from_any, YieldsList-from_slice}
 use Rattle.std.specs.List.{between}
-use borrow.Author.Tests.{tests}
 use Rattle.definitions.specs.File.{state_count, weight_field}
 use Rattle.convert.proofs.Others.{some_other}
 use Rattle.convert.proofs.weight_elsewhere.Goals as goal

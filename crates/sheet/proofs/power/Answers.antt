@@ -1,6 +1,6 @@
 -- `sheet::power` meets its contract: the table is the list of the first twenty powers, which antt computes. Assumes nothing.
-use Prim.Native.Nat.{◌^◌}
-use borrow.Author.Rules.{rules}
+use Rattle.std.specs.Prelude.{◌^◌}
+use Rattle.std.proofs.Common.{rules}
 use Rattle.definitions.specs.Sums.{firsts}
 use Rattle.laws.specs.ListLaws.{get_d_firsts}
 use Rattle.sheet.proofs.power.Goals as goal

@@ -1,5 +1,5 @@
 -- `sheet::put_figure` meets its contract: three texts, one after the other. Assumes nothing.
-use mathlib.Core.Path.{◌≡◌}
+use Rattle.std.specs.Prelude.{◌≡◌}
 use Rattle.definitions.specs.Sheet.{digit, figure}
 use Rattle.writing.specs.Puts.{then}
 use Rattle.sheet.proofs.put_figure.Goals as goal

@@ -1,6 +1,6 @@
 -- `sheet::put_label` meets its contract. Assumes nothing.
-use Prim.Native.Nat.{◌+◌}
-use native.Mathlib.Omega.{arith}
+use Rattle.std.specs.Prelude.{◌+◌}
+use Rattle.std.proofs.Common.{arith}
 use Rattle.definitions.specs.Sheet.{places}
 use Rattle.writing.specs.Puts.{wider}
 use Rattle.sheet.specs.TextLaws.{places_short, label_state, label_start}

@@ -1,5 +1,5 @@
 -- `sheet::put_number` meets its contract: two texts, one after the other. Assumes nothing.
-use native.Mathlib.Omega.{arith}
+use Rattle.std.proofs.Common.{arith}
 use Rattle.definitions.specs.Sheet.{decimal}
 use Rattle.writing.specs.Puts.{then}
 use Rattle.sheet.specs.TextLaws.{places_limit}

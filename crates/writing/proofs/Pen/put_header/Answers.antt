@@ -1,5 +1,5 @@
 -- `writing::put_header` meets its contract: six texts, one after the other. Assumes nothing.
-use native.Mathlib.Omega.{arith}
+use Rattle.std.proofs.Common.{arith}
 use Rattle.writing.specs.Header.{header_put}
 use Rattle.writing.specs.Puts.{then}
 use Rattle.writing.proofs.Pen.put_header.Goals as goal
