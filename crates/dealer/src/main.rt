@@ -2,7 +2,7 @@
 // line on standard error, and no file.
 #![tactic(auto)]
 
-use definitions::Dealing;
+use definitions::{NotDealt, Refusal};
 use std::env::{Env, FillError};
 
 // The bytes of the largest file, of 64 states.
@@ -11,33 +11,30 @@ const LARGEST: usize = 16_397;
 // The bytes of a buffer for an argument.
 const LONGEST: usize = 4096;
 
+const NOT_WHOLE: &str = "the file cannot be written whole";
+
 // That the line cannot be written is not told anywhere.
-fn say(rt: HostRuntime, line: &[u8]) {
-    let _ = rt.stderr().write_all(line);
+fn say(rt: HostRuntime, line: &str) {
+    let _ = eprintln!(rt; "practice: {line}");
 }
 
-fn say_not_whole(rt: HostRuntime) {
-    say(rt, b"practice: the file cannot be written whole\n");
-}
-
-// What is wrong where the call refuses. Row 13 cannot hold: the buffer has room for every file.
-fn say_refusal(rt: HostRuntime, row: u8) {
-    match row {
-        4 => say(
-            rt,
-            b"practice: M, the number of states, is to be a whole number from 1 to 64\n",
-        ),
-        5 => say(
-            rt,
-            b"practice: R, the highest moment, is to be a whole number from 1 to 8\n",
-        ),
-        _ => say_not_whole(rt),
+// What is wrong where no file is dealt. That there is too little room cannot be: the buffer has room for every file.
+fn reason(why: NotDealt) -> &'static str {
+    match why {
+        NotDealt::Refused(Refusal::States) => {
+            "M, the number of states, is to be a whole number from 1 to 64"
+        }
+        NotDealt::Refused(Refusal::HighestMoment) => {
+            "R, the highest moment, is to be a whole number from 1 to 8"
+        }
+        NotDealt::Refused(_) => NOT_WHOLE,
+        NotDealt::NoSeed => "the seed number is to be a whole number from 0 to 4294967295",
     }
 }
 
 fn write_file(rt: HostRuntime, file: &[u8]) {
     if rt.stdout().write_all(file).is_err() {
-        say_not_whole(rt);
+        say(rt, NOT_WHOLE);
     }
 }
 
@@ -45,26 +42,28 @@ fn write_file(rt: HostRuntime, file: &[u8]) {
 fn answer(rt: HostRuntime, states: &[u8], highest: &[u8], seed: &[u8]) {
     let mut file = [0u8; LARGEST];
     match deal::deal(states, highest, seed, &mut file) {
-        Dealing::Count(length) => write_file(rt, &file[..length]),
-        Dealing::Refused(row) => say_refusal(rt, row),
-        Dealing::NoSeed => {
-            say(
-                rt,
-                b"practice: the seed number is to be a whole number from 0 to 4294967295\n",
-            );
-        }
+        Ok(length) => write_file(rt, &file[..length]),
+        Err(why) => say(rt, reason(why)),
     }
 }
 
-// The texts are the arguments. One that is longer than its buffer is an empty text, which says no number.
+// The argument of a number. One that is longer than the buffer is an empty text, which says no number.
+fn argument(rt: HostRuntime, number: usize, buffer: &mut [u8]) -> &[u8] {
+    let length = rt.arg(number, buffer).unwrap_or(0);
+    &buffer[..length]
+}
+
+// The texts are the arguments.
 fn answer_arguments(rt: HostRuntime) {
     let mut states = [0u8; LONGEST];
     let mut highest = [0u8; LONGEST];
     let mut seed = [0u8; LONGEST];
-    let first = rt.arg(1, &mut states).unwrap_or(0);
-    let second = rt.arg(2, &mut highest).unwrap_or(0);
-    let third = rt.arg(3, &mut seed).unwrap_or(0);
-    answer(rt, &states[..first], &highest[..second], &seed[..third]);
+    answer(
+        rt,
+        argument(rt, 1, &mut states),
+        argument(rt, 2, &mut highest),
+        argument(rt, 3, &mut seed),
+    );
 }
 
 // Whether the program has an argument of this number, also where it is longer than a buffer. Number 0 is its name.
@@ -79,7 +78,7 @@ fn main(rt: HostRuntime) {
     } else {
         say(
             rt,
-            b"practice: give M, R and a seed number, as in ./practice 3 2 1234 > FILE\n",
+            "give M, R and a seed number, as in ./practice 3 2 1234 > FILE",
         );
     }
 }
