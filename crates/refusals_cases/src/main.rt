@@ -5,102 +5,96 @@
 // cells and of times, 4 bytes each, and then the times, 4 bytes each, and the file's bytes.
 #![tactic(auto)]
 
-ghost use Rattle.std.specs.Prelude.{◌≡◌, ◌+◌, ◌*◌, ◌≤◌, ◌<◌, ◌^◌, length};
+ghost use Rattle.std.specs.Prelude.{◌≡◌, ◌+◌, ◌≤◌, ◌<◌, length, IfSome};
 
-use definitions::Judgement;
+use definitions::Refusal;
+use reader::ModelFile;
 use std::io;
-use std::io::Read;
-
-const HEADER: usize = 16;
 
 const MOST_TIMES: usize = 16;
 
 // The bytes of the longest input.
 const LONGEST: usize = 524288;
 
-fn wide(x: u8) -> usize
-    ensures { result < 256 }
-{
-    x as usize
-}
-
-fn number(input: &[u8], at: usize) -> usize
-    requires { at + 4 ≤ length input.now }
-    ensures { result < 2 ^ 32 }
-{
-    let high = wide(input[at]) * 256 + wide(input[at + 1]);
-    let low = wide(input[at + 2]) * 256 + wide(input[at + 3]);
-    high * 65536 + low
-}
-
-fn times_of(input: &[u8], at: usize, count: usize) -> [u32; MOST_TIMES]
-    requires { (at + 4 * count ≤ length input.now) × (count ≤ 16) }
-    ensures { length result ≡ 16 }
-{
-    let mut times = [0u32; MOST_TIMES];
-    for k in 0..count {
-        times[k] = number(input, at + 4 * k) as u32;
-    }
-    times
-}
-
-fn show(rt: HostRuntime, answer: Judgement) -> io::Result<()> {
-    match answer {
-        Judgement::Accepted => print!(rt; "0"),
-        Judgement::Refused(row) => print!(rt; "{row}"),
-    }
-}
-
-fn judge_one(
-    rt: HostRuntime,
-    file: &[u8],
-    times: &[u32],
-    levels: usize,
+// A file, what is lent with it, and its list of times: the first `count` of `times`.
+#[derive(Clone, Copy)]
+struct Case<'a> {
+    file: &'a [u8],
     cells: usize,
-) -> io::Result<()> {
-    show(rt, refusals::judge(file, cells))?;
-    print!(rt; " ")?;
-    show(rt, refusals::judge_series(file, times, levels, cells))?;
-    println!(rt; "")
+    levels: usize,
+    times: [u32; MOST_TIMES],
+    count: usize,
+    ghost listed: { count ≤ 16 },
+}
+
+// The number in the first four bytes, and the bytes after them.
+fn number(input: &[u8]) -> Option<(u32, &[u8])>
+    ensures { IfSome result (λ r. length r.1.now < length input.now) }
+{
+    let (bytes, rest) = input.split_first_chunk::<4>()?;
+    Some((u32::from_be_bytes(*bytes), rest))
+}
+
+// So many times, and the bytes after them.
+fn times_of(input: &[u8], count: usize) -> Option<([u32; MOST_TIMES], &[u8])>
+    requires { count ≤ 16 }
+    ensures { IfSome result (λ r. length r.1.now ≤ length input.now) }
+{
+    let mut times = [0; MOST_TIMES];
+    let mut rest = input;
+    for time in &mut times[..count] {
+        let (first, later) = number(rest)?;
+        *time = first;
+        rest = later;
+    }
+    Some((times, rest))
+}
+
+// The first case, and the bytes after it; None where no whole case is left.
+fn first_case(input: &[u8]) -> Option<(Case<'_>, &[u8])>
+    ensures { IfSome result (λ r. length r.1.now < length input.now) }
+{
+    let (size, rest) = number(input)?;
+    let (cells, rest) = number(rest)?;
+    let (levels, rest) = number(rest)?;
+    let (count, rest) = number(rest)?;
+    let count = count as usize;
+    if count > MOST_TIMES {
+        return None;
+    }
+    let (times, rest) = times_of(rest, count)?;
+    let (file, rest) = rest.split_at_checked(size as usize)?;
+    let case = Case {
+        file,
+        cells: cells as usize,
+        levels: levels as usize,
+        times,
+        count,
+    };
+    Some((case, rest))
+}
+
+fn row(answer: Result<ModelFile, Refusal>) -> u8 {
+    match answer {
+        Ok(_) => 0,
+        Err(refusal) => refusal.row(),
+    }
+}
+
+fn judge(rt: HostRuntime, case: &Case) -> io::Result<()> {
+    let times = &case.times[..case.count];
+    let alone = row(refusals::judge(case.file, case.cells));
+    let series = row(refusals::judge_series(case.file, times, case.levels, case.cells));
+    println!(rt; "{alone} {series}")
 }
 
 fn judge_all(rt: HostRuntime, input: &[u8]) -> io::Result<()> {
-    let mut at: usize = 0;
-    while HEADER <= input.len() - at {
-        let size = number(input, at);
-        let cells = number(input, at + 4);
-        let levels = number(input, at + 8);
-        let count = number(input, at + 12);
-        let listed = at + HEADER;
-        if count > MOST_TIMES {
-            return Ok(());
-        }
-        if input.len() - listed < 4 * count + size {
-            return Ok(());
-        }
-        let times = times_of(input, listed, count);
-        let start = listed + 4 * count;
-        let end = start + size;
-        judge_one(rt, &input[start..end], &times[..count], levels, cells)?;
-        at = end;
+    let mut rest = input;
+    while let Some((case, later)) = first_case(rest) {
+        judge(rt, &case)?;
+        rest = later;
     }
     Ok(())
-}
-
-// Reads standard input until the buffer is full, the input ends or a read fails, and returns how many bytes came.
-fn read_full(rt: HostRuntime, buffer: &mut [u8]) -> usize
-    ensures room { length buffer.new ≡ length buffer.old }
-    ensures bytes { result ≤ length buffer.new }
-{
-    let mut count = 0;
-    while count < buffer.len() {
-        match rt.stdin().read(&mut buffer[count..]) {
-            Ok(0) => break,
-            Ok(more) => count += more,
-            Err(_) => break,
-        }
-    }
-    count
 }
 
 // A buffer for the input. It is made in a function of its own so that no proof of a caller spells its bytes out.
@@ -110,6 +104,6 @@ fn empty_buffer() -> [u8; LONGEST] {
 
 fn main(rt: HostRuntime) -> io::Result<()> {
     let mut buffer = empty_buffer();
-    let n = read_full(rt, &mut buffer);
+    let (n, _) = input::fill(&mut rt.stdin(), &mut buffer);
     judge_all(rt, &buffer[..n])
 }

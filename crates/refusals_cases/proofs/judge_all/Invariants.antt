@@ -1,9 +1,6 @@
--- Each turn takes at least the sixteen bytes before a case.
-use Rattle.std.proofs.Common.{◌-◌, ◌≤◌, length}
+-- Each case leaves less of the input.
+use Rattle.std.proofs.Common.{length}
 use Rattle.refusals_cases.proofs.judge_all.Given as goal
 
-abbrev pub invariant-loop-at : goal.invariant-loop-at
-invariant-loop-at l = l.at ≤ length l.input
-
-abbrev pub decreases-loop-at : goal.decreases-loop-at
-decreases-loop-at l = length l.input - l.at
+abbrev pub decreases-loop-case : goal.decreases-loop-case
+decreases-loop-case l = length l.rest

@@ -1,6 +1,6 @@
--- The loop goes over the times that are given.
-use Rattle.std.proofs.Common.{◌≡◌, ◌≤◌, length}
+-- What is left is no longer than the input.
+use Rattle.std.proofs.Common.{◌≤◌, length}
 use Rattle.refusals_cases.proofs.times_of.Given as goal
 
-abbrev pub invariant-loop-k : goal.invariant-loop-k
-invariant-loop-k l = (l.k ≤ l.count) × (length l.times ≡ 16)
+abbrev pub invariant-loop-time : goal.invariant-loop-time
+invariant-loop-time l = length l.rest ≤ length l.fn.input
