@@ -27,6 +27,7 @@ use Rattle.laws.specs.MomentLaws.{weighted_mean_same, state_of_cell, figure_of_s
 use Rattle.laws.specs.StartLaws.{mean_same}
 use Rattle.laws.proofs.Demand3.{moment_max}
 use Rattle.laws.specs.Acceptance.{WithinLimits, AcceptedSeries, block_max}
+use Rattle.vectors.specs.Ready.{Ready}
 use Rattle.vectors.specs.ModelLaws.{held_ready}
 use Rattle.start.specs.Figures.{start_cell, Distribution, AllMoments}
 use Rattle.means.specs.RunningLaws.{in_states}
@@ -55,11 +56,14 @@ module _ (s times : List ℕ) (levels cells : ℕ) (g : AcceptedSeries s times l
   unfolding jump_millionths
   is_jumps k h = e.jumps k h ∙ ap (λ (E : ℕ). E * get_or times k 0) (sym (rate_at_lem m (get_or times k 0)))
 
+  -- the arrays are ready for the steps
+  pub ready : Ready z a f
+  ready = held_ready m (get_or times 0 0) e.held first
+
   -- can be solved
-  pub solvable : Solvable z a f xs ε
+  pub solvable : Solvable z xs ε
   solvable =
       record {
-        ready = held_ready m (get_or times 0 0) e.held first;
         fitting = rw e.held.sizes (record { states_within = omega arith; block_max = block_max s g.framed first.highest_max });
         highest_pos = rw e.held.sizes first.highest_pos;
         highest_max = rw e.held.sizes first.highest_max;

@@ -2,115 +2,126 @@
 // and where the file holds a starting distribution, the start figures. The row means taken on the way are counted.
 #![tactic(auto)]
 
-ghost use Rattle.std.specs.Prelude.{map, ◌≡◌, ◌*◌, ◌^◌, ◌<◌, ◌≤◌, length, get_or};
-ghost use Rattle.definitions.specs.Sums.{over, rows_stored};
+ghost use Rattle.std.specs.Prelude.{◌≡◌, ◌*◌, ◌^◌, ◌<◌, ◌≤◌, length, get_or};
+ghost use Rattle.definitions.specs.Sums.{over};
 ghost use Rattle.definitions.specs.File.{state_count};
-ghost use Rattle.definitions.specs.Chain.{model_of, c};
-ghost use Rattle.definitions.specs.Rules.{accepted, saying};
-ghost use Rattle.definitions.specs.Moment.{run_of, outcome, answer_of, cells_after, LevelBounded};
+ghost use Rattle.definitions.specs.Chain.{model_of};
+ghost use Rattle.definitions.specs.Rules.{accepted, answer_of, saying};
+ghost use Rattle.definitions.specs.Moment.{run_of, outcome, cells_after, LevelBounded};
 ghost use Rattle.definitions.specs.Promise.{Promised};
-ghost use Rattle.definitions.specs.Series.{means_of_all, series_outcome, series_answer, levels_after, blocks_after, AreRuns, SeriesPromised, LevelsBounded};
-ghost use Rattle.definitions.specs.Arrows.{added_states};
+ghost use Rattle.definitions.specs.Series.{means_of_all, series_outcome, levels_after, blocks_after, AreRuns, SeriesPromised, LevelsBounded};
 ghost use Rattle.definitions.specs.Order.{NoneRises, NoBlockRises, NoneLowered, NoBlockLowered};
 ghost use Rattle.laws.specs.Acceptance.{AcceptedFile, AcceptedSeries};
 ghost use Rattle.moments.specs.Filling.{started, Startable};
 
-use definitions::{Judgement, MOST_TIMES, Outcome, Run, Series, Sizes};
+use definitions::{MOST_TIMES, Refusal, Run, Sizes};
+use reader::ModelFile;
+use start::StartWeights;
+use vectors::{LentChain, Rows};
 
 // At most this many states have their rows in smaller arrays: a small file does not pay for the clearing of
 // large ones.
 const FEW_STATES: usize = 16;
+
+const FEW_PLACES: usize = FEW_STATES * FEW_STATES;
+
+const MOST_PLACES: usize = 64 * 64;
 
 // X of each time, in the first entries of what is lent.
 fn write_jumps(rate: u64, times: &[u32], xs: &mut [u64])
     requires { (rate < 2 ^ 32) × (length times.now ≤ length xs.old) }
     ensures { xs.new ≡ over (length times.now) (λ k. rate * get_or times.now k 0) xs.old }
 {
-    let count = times.len();
-    for k in 0..count {
-        xs[k] = reader::jump_millionths(rate, times[k]);
+    for (k, &time) in times.iter().enumerate() {
+        xs[k] = reader::jump_millionths(rate, time);
     }
 }
 
 // The start figures after the moments of each block, where the file holds a starting distribution.
-fn put_starts(file: &[u8], sizes: Sizes, count: usize, cells: &mut [u64])
+fn put_starts(file: &ModelFile, sizes: Sizes, count: usize, cells: &mut [u64])
     requires { Startable file.now sizes count cells.old }
     ensures { cells.new ≡ started (model_of file.now) sizes.block count cells.old }
 {
-    if reader::distributions(file) == 0 {
+    if file.head.distributions() == 0 {
         return;
     }
-    let weights = reader::weights_of(file);
-    start::put_in_blocks(&weights, sizes.states, sizes.highest, count, cells);
+    let weights = file.weights();
+    let start = StartWeights {
+        weights: &weights,
+        states: sizes.states,
+        highest: sizes.highest,
+    };
+    start.put_in_blocks(count, cells);
 }
 
-// A level and a block for each time of a list, of an accepted file: what it states is read, its rows into the
-// places that are lent. Returns the number of row means that it took.
-fn fill_with(
-    file: &[u8],
+// A level and a block for each time of a list, of an accepted file: what it states is read, its rows into so many
+// places. Returns the number of row means that it took.
+fn fill_with<const PLACES: usize>(
+    file: &ModelFile,
     times: &[u32],
-    targets: &mut [u8],
-    rates: &mut [u32],
     levels: &mut [u64],
     cells: &mut [u64],
 ) -> u64
     requires accepted_series { AcceptedSeries file.now times.now (length levels.old) (length cells.old) }
-    requires file_in_bounds { (state_count file.now * state_count file.now ≤ length targets.old) × (state_count file.now * state_count file.now ≤ length rates.old) }
-    ensures targets { targets.new ≡ rows_stored (added_states (model_of file.now)) (state_count file.now) (state_count file.now) targets.old }
-    ensures rates { rates.new ≡ rows_stored (λ i. map (c (model_of file.now) i) (added_states (model_of file.now) i)) (state_count file.now) (state_count file.now) rates.old }
+    requires places { (state_count file.now * state_count file.now ≤ PLACES) × (PLACES ≤ 4096) }
     ensures levels { levels.new ≡ levels_after (accepted result) file.now times.now levels.old }
     ensures cells { cells.new ≡ blocks_after (accepted result) file.now times.now cells.old }
     ensures means { result ≡ means_of_all file.now times.now }
 {
-    let sums = reader::row_sums(file);
-    let sizes = reader::sizes_of(file, &sums);
-    let mut counts = [0usize; 64];
-    arrows::list_rows(file, &sums, sizes.rate, targets, rates, &mut counts);
-    let rewards = reader::rewards_of(file);
-    let mut xs = [0u64; MOST_TIMES];
+    let sums = file.row_sums();
+    let sizes = file.sizes(&sums);
+    let mut targets = [0; PLACES];
+    let mut rates = [0; PLACES];
+    let mut counts = [0; 64];
+    arrows::list_rows(
+        file,
+        &sums,
+        sizes.rate,
+        &mut targets,
+        &mut rates,
+        &mut counts,
+    );
+    let rewards = file.rewards();
+    let rows = Rows {
+        sizes,
+        targets: &targets,
+        rates: &rates,
+        counts: &counts,
+    };
+    let chain = LentChain {
+        rows,
+        rewards: &rewards,
+    };
+    let mut xs = [0; MOST_TIMES];
     write_jumps(sizes.rate, times, &mut xs);
     let count = times.len();
-    let tolerance = reader::tolerance(file);
-    let taken = means::solve(
-        sizes,
-        targets,
-        rates,
-        &counts,
-        &rewards,
-        &xs[..count],
-        tolerance,
-        levels,
-        cells,
-    );
+    let tolerance = file.head.tolerance();
+    let taken = means::solve(&chain, &xs[..count], tolerance, levels, cells);
     put_starts(file, sizes, count, cells);
     taken
 }
 
 // The same, with places enough for the rows.
-fn fill(file: &[u8], times: &[u32], levels: &mut [u64], cells: &mut [u64]) -> u64
+fn fill(file: &ModelFile, times: &[u32], levels: &mut [u64], cells: &mut [u64]) -> u64
     requires { AcceptedSeries file.now times.now (length levels.old) (length cells.old) }
     ensures levels { levels.new ≡ levels_after (accepted result) file.now times.now levels.old }
     ensures cells { cells.new ≡ blocks_after (accepted result) file.now times.now cells.old }
     ensures means { result ≡ means_of_all file.now times.now }
 {
-    let states = reader::state_count(file);
-    if states <= FEW_STATES {
-        let mut targets = [0u8; FEW_STATES * FEW_STATES];
-        let mut rates = [0u32; FEW_STATES * FEW_STATES];
-        return fill_with(file, times, &mut targets, &mut rates, levels, cells);
+    if file.head.state_count() <= FEW_STATES {
+        fill_with::<FEW_PLACES>(file, times, levels, cells)
+    } else {
+        fill_with::<MOST_PLACES>(file, times, levels, cells)
     }
-    let mut targets = [0u8; 64 * 64];
-    let mut rates = [0u32; 64 * 64];
-    fill_with(file, times, &mut targets, &mut rates, levels, cells)
 }
 
 // The run and the block for the file's own time: a list of one.
-fn fill_own(file: &[u8], cells: &mut [u64]) -> Run
+fn fill_own(file: &ModelFile, cells: &mut [u64]) -> Run
     requires { AcceptedFile file.now (length cells.old) }
     ensures { (result ≡ run_of (model_of file.now)) × (cells.new ≡ cells_after (accepted result) file.now cells.old) }
 {
-    let times = [reader::time(file)];
-    let mut levels = [0u64];
+    let times = [file.head.time()];
+    let mut levels = [0];
     let means = fill(file, &times, &mut levels, cells);
     Run {
         level: levels[0],
@@ -125,7 +136,7 @@ fn fill_own(file: &[u8], cells: &mut [u64]) -> Run
 // more of the averages weighted so. The level is at most 2 * m + 51, m being the expected jump count, down. In the
 // cells of a state, and in those of the start, no figure is above the one before it; and the same call for the
 // file with one reward rate raised, but not past the largest, answers the same and leaves no cell lower.
-pub fn calculate(file: &[u8], cells: &mut [u64]) -> Outcome
+pub fn calculate(file: &[u8], cells: &mut [u64]) -> Result<Run, Refusal>
     ensures outcome { answer_of result ≡ outcome file.now (length cells.old) }
     ensures cells { cells.new ≡ cells_after (answer_of result) file.now cells.old }
     ensures promise { Promised (answer_of result) file.now cells.new }
@@ -133,11 +144,8 @@ pub fn calculate(file: &[u8], cells: &mut [u64]) -> Outcome
     ensures order { NoneRises (answer_of result) file.now cells.new }
     ensures raised { NoneLowered (answer_of result) file.now cells.old cells.new }
 {
-    let judgement = refusals::judge(file, cells.len());
-    match judgement {
-        Judgement::Refused(k) => Outcome::Refused(k),
-        Judgement::Accepted => Outcome::Solved(fill_own(file, cells)),
-    }
+    let model = refusals::judge(file, cells.len())?;
+    Ok(fill_own(&model, cells))
 }
 
 // The call for several times: the first row of its table of refusals that holds, with no level and no cell
@@ -147,19 +155,21 @@ pub fn calculate(file: &[u8], cells: &mut [u64]) -> Outcome
 // time and the cells past the last block are as they were. In the cells of a state of each block, and in those of
 // its start, no figure is above the one before it; and the same call for the file with one reward rate raised,
 // but not past the largest, answers the same, gives the same levels and leaves no cell lower.
-pub fn series(file: &[u8], times: &[u32], levels: &mut [u64], cells: &mut [u64]) -> Series
-    ensures answer { series_answer result ≡ series_outcome file.now times.now (length levels.old) (length cells.old) }
-    ensures levels { levels.new ≡ levels_after (series_answer result) file.now times.now levels.old }
-    ensures cells { cells.new ≡ blocks_after (series_answer result) file.now times.now cells.old }
-    ensures promise { SeriesPromised (series_answer result) file.now times.now levels.new cells.new }
-    ensures runs { AreRuns (series_answer result) file.now times.now levels.new cells.old cells.new }
-    ensures bounded { LevelsBounded (series_answer result) file.now times.now levels.new }
-    ensures order { NoBlockRises (series_answer result) file.now times.now cells.new }
-    ensures raised { NoBlockLowered (series_answer result) file.now times.now levels.old levels.new cells.old cells.new }
+pub fn series(
+    file: &[u8],
+    times: &[u32],
+    levels: &mut [u64],
+    cells: &mut [u64],
+) -> Result<u64, Refusal>
+    ensures answer { answer_of result ≡ series_outcome file.now times.now (length levels.old) (length cells.old) }
+    ensures levels { levels.new ≡ levels_after (answer_of result) file.now times.now levels.old }
+    ensures cells { cells.new ≡ blocks_after (answer_of result) file.now times.now cells.old }
+    ensures promise { SeriesPromised (answer_of result) file.now times.now levels.new cells.new }
+    ensures runs { AreRuns (answer_of result) file.now times.now levels.new cells.old cells.new }
+    ensures bounded { LevelsBounded (answer_of result) file.now times.now levels.new }
+    ensures order { NoBlockRises (answer_of result) file.now times.now cells.new }
+    ensures raised { NoBlockLowered (answer_of result) file.now times.now levels.old levels.new cells.old cells.new }
 {
-    let judgement = refusals::judge_series(file, times, levels.len(), cells.len());
-    match judgement {
-        Judgement::Refused(k) => Series::Refused(k),
-        Judgement::Accepted => Series::Solved(fill(file, times, levels, cells)),
-    }
+    let model = refusals::judge_series(file, times, levels.len(), cells.len())?;
+    Ok(fill(&model, times, levels, cells))
 }

@@ -1,36 +1,28 @@
 -- Without a starting distribution the cells stay; with one each block gets its figures.
-use native.Mathlib.Omega.{arith}
-use Prim.Native.Nat.{ℕ}
-use mathlib.Core.Path.{◌≡◌, ◌∙◌}
-use mathlib.Core.List.{List}
+use Rattle.std.proofs.Common.{◌≡◌, ◌∙◌, ap, arith}
 use Rattle.definitions.specs.File.{distributions}
 use Rattle.laws.specs.ChainLaws.{distributions_max}
 use Rattle.moments.specs.FillingLaws.{none_started, distribution, all_moments, some_started}
 use Rattle.moments.proofs.put_starts.Goals as goal
-use Rattle.moments.proofs.put_starts.Goals.{After-weights_of-weights, Start}
+use Rattle.moments.proofs.put_starts.Goals.{After-weights-weights}
 
 pub returns-then-distributions-eq0 : goal.returns-then-distributions-eq0
 returns-then-distributions-eq0 c =
-    none_started c.args.file.now c.args.sizes c.args.count c.args.cells.now c.requires (omega (arith, c.distributions.ensures, c.if-distributions-eq0.true))
+    none_started c.args.file.now c.args.sizes c.args.count c.args.cells.now c.requires (omega (arith, c.distributions.ensures, ap distributions c.file.view_is, c.if-distributions-eq0.true))
 
 -- past the test there is one starting distribution
-module _ (d : After-weights_of-weights) where
-  abbrev start : Start
-  start = (goal.at.After-weights_of-weights d).Start
+one : (c : After-weights-weights) → distributions c.args.file.now ≡ 1
+one c = omega (arith, c.distributions.ensures, ap distributions c.file.view_is, c.if-distributions-eq0.false, distributions_max c.args.file.now)
 
-  abbrev file : List ℕ
-  file = start.args.file.now
-
-  one : distributions file ≡ 1
-  one = omega (arith, d.distributions.ensures, d.if-distributions-eq0.false, distributions_max file)
+pub invariant_of-start : goal.invariant_of-start
+invariant_of-start c =
+    record { distribution = distribution c.args.file.now c.args.sizes c.args.count c.args.cells.now c.requires (one (goal.at.invariant_of-start c).After-weights-weights) c.weights-weights.result c.weights-weights.ensures.value }
 
 pub put_in_blocks-requires : goal.put_in_blocks-requires
 put_in_blocks-requires c =
-    let args = (start (goal.at.put_in_blocks-requires c).After-weights_of-weights).args in
-    (distribution (file (goal.at.put_in_blocks-requires c).After-weights_of-weights) args.sizes args.count args.cells.now (start (goal.at.put_in_blocks-requires c).After-weights_of-weights).requires (one (goal.at.put_in_blocks-requires c).After-weights_of-weights) c.weights_of-weights.result c.weights_of-weights.ensures, all_moments (file (goal.at.put_in_blocks-requires c).After-weights_of-weights) args.sizes args.count args.cells.now (start (goal.at.put_in_blocks-requires c).After-weights_of-weights).requires (one (goal.at.put_in_blocks-requires c).After-weights_of-weights) c.weights_of-weights.result c.weights_of-weights.ensures)
+    all_moments c.args.file.now c.args.sizes c.args.count c.args.cells.now c.requires (one (goal.at.put_in_blocks-requires c).After-weights-weights) c.weights-weights.result c.weights-weights.ensures.value
 
 pub returns : goal.returns
 returns c =
-    let args = (start (goal.at.returns c).After-weights_of-weights).args in
     c.put_in_blocks.ensures
-    ∙ some_started (file (goal.at.returns c).After-weights_of-weights) args.sizes args.count args.cells.now (start (goal.at.returns c).After-weights_of-weights).requires (one (goal.at.returns c).After-weights_of-weights) c.weights_of-weights.result c.weights_of-weights.ensures
+    ∙ some_started c.args.file.now c.args.sizes c.args.count c.args.cells.now c.requires (one (goal.at.returns c).After-weights-weights) c.weights-weights.result c.weights-weights.ensures.value
