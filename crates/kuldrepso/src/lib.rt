@@ -1,21 +1,22 @@
 // The calls for C and Rust: `./build kuldrepso` puts them into a static library, and include/kuldrepso.h declares them.
 //
-// C knows no enum of Rattle's, so an answer goes out as one plain number. A slice comes as a pointer and a length.
+// C knows no enum of Rattle's, so an answer goes out as one plain number, and a refusal as that of its row. A slice comes as a pointer and a length.
 #![tactic(auto)]
 
-ghost use Rattle.std.specs.Prelude.{◌≡◌, length};
-ghost use Rattle.definitions.specs.Rules.{saying};
+ghost use Rattle.std.specs.Prelude.{◌≡◌, ◌+◌, length};
+ghost use Rattle.definitions.specs.Rules.{answer_of, saying};
 ghost use Rattle.definitions.specs.Moment.{outcome, cells_after, count_after, LevelBounded};
 ghost use Rattle.definitions.specs.Promise.{Promised};
 ghost use Rattle.definitions.specs.Series.{series_outcome, levels_after, blocks_after, AreRuns, SeriesPromised, LevelsBounded};
 ghost use Rattle.definitions.specs.Order.{NoneRises, NoBlockRises, NoneLowered, NoBlockLowered};
 ghost use Rattle.definitions.specs.Remainders.{remainders_of, number_after, WorkedOut};
-ghost use Rattle.definitions.specs.Written.{count_of, bytes_after, written_answer};
+ghost use Rattle.definitions.specs.Refusal.{row_of};
+ghost use Rattle.definitions.specs.Written.{count_of, bytes_after};
 ghost use Rattle.definitions.specs.Convert.{to_version_2, to_version_1, ThereAndBack};
 ghost use Rattle.definitions.specs.Practice.{practice, DealtWell};
-ghost use Rattle.kuldrepso.specs.Plain.{plain_answer, meant, given_or_none, with_numbers, Tells};
+ghost use Rattle.kuldrepso.specs.Plain.{refusals_from, plain_answer, meant, given_or_none, with_numbers, Tells};
 
-use definitions::{Outcome, Remainders, Series, Written};
+use definitions::Refusal;
 
 // Refusal k goes out as this and k. No other answer is near it: the greatest level is 563, the most times are 8, and the
 // longest file has 16,653 bytes.
@@ -25,6 +26,13 @@ const REFUSED: u64 = 1_000_000;
 const GIVEN: u64 = 0;
 
 const NONE: u64 = 1;
+
+// The number of a refusal.
+fn refused(refusal: Refusal) -> u64
+    ensures { result ≡ refusals_from + row_of refusal }
+{
+    REFUSED + u64::from(refusal.row())
+}
 
 // moments::calculate, with the level N for an acceptance and REFUSED + k for refusal k. An acceptance writes the number of
 // row means to `means`; a refusal leaves it as it was.
@@ -39,11 +47,11 @@ pub extern "C" fn kuldrepso_calculate(file: &[u8], cells: &mut [u64], means: &mu
     ensures means { means.new ≡ count_after (saying (λ x. x.means) (outcome file.now (length cells.old))) means.old }
 {
     match moments::calculate(file, cells) {
-        Outcome::Solved(run) => {
+        Ok(run) => {
             *means = run.means;
             run.level
         }
-        Outcome::Refused(k) => REFUSED + k as u64,
+        Err(refusal) => refused(refusal),
     }
 }
 
@@ -68,11 +76,11 @@ pub extern "C" fn kuldrepso_series(
     ensures means { means.new ≡ count_after (series_outcome file.now times.now (length levels.old) (length cells.old)) means.old }
 {
     match moments::series(file, times, levels, cells) {
-        Series::Solved(taken) => {
+        Ok(taken) => {
             *means = taken;
             times.len() as u64
         }
-        Series::Refused(k) => REFUSED + k as u64,
+        Err(refusal) => refused(refusal),
     }
 }
 
@@ -95,24 +103,24 @@ pub extern "C" fn kuldrepso_remainders(
     ensures worked { WorkedOut (with_numbers (remainders_of file.now state n r) (record { mean = mean.new; share = share.new; mix = mix.new })) file.now state n r }
 {
     match remainders::remainders(file, state, n, r) {
-        Remainders::Given(rests) => {
+        Ok(Some(rests)) => {
             *mean = rests.mean;
             *share = rests.share;
             *mix = rests.mix;
             GIVEN
         }
-        Remainders::Nothing => NONE,
-        Remainders::Refused(k) => REFUSED + k as u64,
+        Ok(None) => NONE,
+        Err(refusal) => refused(refusal),
     }
 }
 
 // The answer of a call that writes a file, with the count of bytes for an acceptance.
-fn plain(answer: Written) -> u64
-    ensures { result ≡ plain_answer (written_answer answer) }
+fn plain(answer: Result<usize, Refusal>) -> u64
+    ensures { result ≡ plain_answer (answer_of answer) }
 {
     match answer {
-        Written::Count(count) => count as u64,
-        Written::Refused(k) => REFUSED + k as u64,
+        Ok(count) => count as u64,
+        Err(why) => refused(why),
     }
 }
 

@@ -2,25 +2,28 @@
 use mathlib.Core.Path.{◌≡◌, ◌∙◌, sym, ap}
 use native.Mathlib.Omega.{arith}
 use lib.ListN.{length}
-use Rattle.definitions.specs.declared.Outcome.{Outcome}
-use Rattle.definitions.specs.Moment.{outcome, answer_of}
+use Rattle.std.specs.Prelude.{Result}
+use Rattle.definitions.specs.declared.Refusal.{Refusal}
+use Rattle.definitions.specs.declared.Run.{Run}
+use Rattle.definitions.specs.Rules.{answer_of}
+use Rattle.definitions.specs.Moment.{outcome}
 use Rattle.kuldrepso.specs.Plain.{plain_answer}
 use Rattle.kuldrepso.proofs.PlainLaws.{outcome_told, bound_meant}
 use Rattle.kuldrepso.proofs.kuldrepso_calculate.Goals as goal
 use Rattle.kuldrepso.proofs.kuldrepso_calculate.Goals.{After-calculate}
 
 -- the outcome, as the case of the enum that an arm has
-answered : (c : After-calculate) (o : Outcome) → c.calculate.result ≡ o →
+answered : (c : After-calculate) (o : Result Run Refusal) → c.calculate.result ≡ o →
     let args = c.args in
     outcome args.file.now (length args.cells.now) ≡ answer_of o
 answered c o told = sym c.calculate.ensures.outcome ∙ ap answer_of told
 
-pub returns-in-Solved : goal.returns-in-Solved
+pub returns-in-Ok : goal.returns-in-Ok
 unfolding plain_answer
-returns-in-Solved c =
-    let told = c.in-Solved.is in
+returns-in-Ok c =
+    let told = c.in-Ok.is in
     let call = c.calculate.ensures in
-    let same = answered (goal.at.returns-in-Solved c).After-calculate _ told in
+    let same = answered (goal.at.returns-in-Ok c).After-calculate _ told in
     rw same (record {
       answer = outcome_told _ _ _ same _ (omega arith);
       cells = rw told at call.cells;
@@ -31,12 +34,12 @@ returns-in-Solved c =
       means = omega arith;
     })
 
-pub returns-in-Refused : goal.returns-in-Refused
+pub returns-in-Err : goal.returns-in-Err
 unfolding plain_answer
-returns-in-Refused c =
-    let told = c.in-Refused.is in
+returns-in-Err c =
+    let told = c.in-Err.is in
     let call = c.calculate.ensures in
-    let same = answered (goal.at.returns-in-Refused c).After-calculate _ told in
+    let same = answered (goal.at.returns-in-Err c).After-calculate _ told in
     rw same (record {
       answer = outcome_told _ _ _ same _ (omega arith);
       cells = rw told at call.cells;

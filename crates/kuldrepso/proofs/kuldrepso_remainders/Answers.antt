@@ -1,23 +1,26 @@
 -- Each arm returns the plain number of the answer, and writes the remainders that are given.
 use mathlib.Core.Path.{◌≡◌, ◌∙◌, sym, ap}
 use native.Mathlib.Omega.{arith}
-use Rattle.definitions.specs.declared.Remainders.{Remainders}
-use Rattle.definitions.specs.Remainders.{remainders_answer, remainders_of, WorkedOut}
+use Rattle.std.specs.Prelude.{Option, Result}
+use Rattle.definitions.specs.declared.Refusal.{Refusal}
+use Rattle.definitions.specs.declared.Rests.{Rests}
+use Rattle.definitions.specs.Rules.{answer_of}
+use Rattle.definitions.specs.Remainders.{remainders_of, WorkedOut}
 use Rattle.kuldrepso.specs.Plain.{plain_answer}
 use Rattle.kuldrepso.specs.PlainLaws.{remainders_told}
 use Rattle.kuldrepso.proofs.kuldrepso_remainders.Goals as goal
 use Rattle.kuldrepso.proofs.kuldrepso_remainders.Goals.{After-remainders}
 
 -- what the call answered, as the case of the enum that the arm has
-answered : (c : After-remainders) (o : Remainders) → c.remainders.result ≡ o →
+answered : (c : After-remainders) (o : Result (Option Rests) Refusal) → c.remainders.result ≡ o →
     let args = c.args in
-    remainders_of args.file.now args.state args.n args.r ≡ remainders_answer o
-answered c o told = sym c.remainders.ensures.answer ∙ ap remainders_answer told
+    remainders_of args.file.now args.state args.n args.r ≡ answer_of o
+answered c o told = sym c.remainders.ensures.answer ∙ ap answer_of told
 
 -- and with the divisions worked
-worked : (c : After-remainders) (o : Remainders) → c.remainders.result ≡ o →
+worked : (c : After-remainders) (o : Result (Option Rests) Refusal) → c.remainders.result ≡ o →
     let args = c.args in
-    WorkedOut (remainders_answer o) args.file.now args.state args.n args.r
+    WorkedOut (answer_of o) args.file.now args.state args.n args.r
 worked c o told = rw told at c.remainders.ensures.worked
 
 pub returns-in-Given : goal.returns-in-Given

@@ -2,25 +2,27 @@
 use mathlib.Core.Path.{◌≡◌, ◌∙◌, sym, ap}
 use native.Mathlib.Omega.{arith}
 use lib.ListN.{length}
-use Rattle.definitions.specs.declared.Series.{Series}
-use Rattle.definitions.specs.Series.{series_outcome, series_answer}
+use Rattle.std.specs.Prelude.{ℕ, Result}
+use Rattle.definitions.specs.declared.Refusal.{Refusal}
+use Rattle.definitions.specs.Rules.{answer_of}
+use Rattle.definitions.specs.Series.{series_outcome}
 use Rattle.kuldrepso.specs.Plain.{plain_answer}
 use Rattle.kuldrepso.specs.PlainLaws.{series_told}
 use Rattle.kuldrepso.proofs.kuldrepso_series.Goals as goal
 use Rattle.kuldrepso.proofs.kuldrepso_series.Goals.{After-series}
 
 -- the outcome, as the case of the enum that an arm has
-answered : (c : After-series) (o : Series) → c.series.result ≡ o →
+answered : (c : After-series) (o : Result ℕ Refusal) → c.series.result ≡ o →
     let args = c.args in
-    series_outcome args.file.now args.times.now (length args.levels.now) (length args.cells.now) ≡ series_answer o
-answered c o told = sym c.series.ensures.answer ∙ ap series_answer told
+    series_outcome args.file.now args.times.now (length args.levels.now) (length args.cells.now) ≡ answer_of o
+answered c o told = sym c.series.ensures.answer ∙ ap answer_of told
 
-pub returns-in-Solved : goal.returns-in-Solved
+pub returns-in-Ok : goal.returns-in-Ok
 unfolding plain_answer
-returns-in-Solved c =
-    let told = c.in-Solved.is in
+returns-in-Ok c =
+    let told = c.in-Ok.is in
     let call = c.series.ensures in
-    let same = answered (goal.at.returns-in-Solved c).After-series _ told in
+    let same = answered (goal.at.returns-in-Ok c).After-series _ told in
     rw same (record {
       answer = series_told _ _ _ _ _ same _ (omega arith);
       levels = rw told at call.levels;
@@ -33,12 +35,12 @@ returns-in-Solved c =
       means = omega arith;
     })
 
-pub returns-in-Refused : goal.returns-in-Refused
+pub returns-in-Err : goal.returns-in-Err
 unfolding plain_answer
-returns-in-Refused c =
-    let told = c.in-Refused.is in
+returns-in-Err c =
+    let told = c.in-Err.is in
     let call = c.series.ensures in
-    let same = answered (goal.at.returns-in-Refused c).After-series _ told in
+    let same = answered (goal.at.returns-in-Err c).After-series _ told in
     rw same (record {
       answer = series_told _ _ _ _ _ same _ (omega arith);
       levels = rw told at call.levels;

@@ -2,19 +2,20 @@
 use Prim.Native.Nat.{ℕ}
 use mathlib.Core.Path.{ap}
 use native.Mathlib.Omega.{arith}
-use Rattle.definitions.specs.declared.Written.{Written}
-use Rattle.definitions.specs.Written.{written_answer}
+use Rattle.std.specs.Prelude.{Result}
+use Rattle.definitions.specs.declared.Refusal.{Refusal}
+use Rattle.definitions.specs.Rules.{answer_of}
 use Rattle.kuldrepso.specs.Plain.{plain_answer}
 use Rattle.kuldrepso.proofs.plain.Goals as goal
 
 -- the plain number of an answer of the enum
-abbrev plain : Written → ℕ
-plain o = plain_answer (written_answer o)
+abbrev plain : Result ℕ Refusal → ℕ
+plain o = plain_answer (answer_of o)
 
-pub returns-in-Count : goal.returns-in-Count
+pub returns-in-Ok : goal.returns-in-Ok
 unfolding plain_answer
-returns-in-Count c = omega (arith, ap plain c.in-Count.is)
+returns-in-Ok c = omega (arith, ap plain c.in-Ok.is)
 
-pub returns-in-Refused : goal.returns-in-Refused
+pub returns-in-Err : goal.returns-in-Err
 unfolding plain_answer
-returns-in-Refused c = omega (arith, ap plain c.in-Refused.is)
+returns-in-Err c = omega (arith, ap plain c.in-Err.is)
