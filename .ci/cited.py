@@ -2,7 +2,7 @@
 """Fails where a law under crates/*/specs or crates/*/proofs is cited nowhere: it could be deleted, and the gate would stay green.
 
 A law is a `pub` declaration that is no definition (abbrev, unfoldable, record, data). One is cited where another module brings it in by
-`use`, or where its own module has its name beside its own lines. The hand checks, in modules whose name ends in Checked and in
+`use` or an attribute of a function names it, or where its own module has its name beside its own lines. The hand checks, in modules whose name ends in Checked and in
 Numeral, are cited by nobody: the edits that they refuse show what they hold. The root, `theorems`, is what laws is for.
 A law of TO_COME is for a call of a log that is not written yet; one that is cited has no place there any more.
 """
@@ -14,6 +14,8 @@ import sys
 ROOT = pathlib.Path(__file__).resolve().parent.parent
 LAW = re.compile(r"^( *)pub (?!mod |record |data )([^\s:(){}]+) :", re.M)
 USE = re.compile(r"^(?:ghost )?use Rattle\.([\w.]+)\.\{([^}]*)\}", re.M)
+ATTRIBUTE = re.compile(r"#!?\[tactic\((.*?)\)\]$", re.M | re.S)
+PATH = re.compile(r"\w+(?:::[\w'-]+)+")
 WORD = re.compile(r"[^\s(){}.,;]+")
 
 # What stands in proofs/F/, of one function: Rattle's own goals cite it.
@@ -25,12 +27,22 @@ def module_of(path):
     return ".".join(pathlib.PurePath(path).with_suffix("").parts[1:])
 
 
+def by_attributes(path, text):
+    """What the attributes of a source name: (module, name)."""
+    for attribute in ATTRIBUTE.findall(text):
+        for parts in (found.split("::") for found in PATH.findall(attribute)):
+            crate = pathlib.PurePath(path).parts[1] if parts[0] == "crate" else parts[0]
+            yield ".".join([crate, *parts[1:-1]]), parts[-1]
+
+
 def uncited(texts):
     """The laws of texts, module path to text, that nothing cites: (path, name)."""
-    brought = set()  # (module, name) of every use
-    for text in texts.values():
+    brought = set()  # (module, name) of every use and attribute
+    for path, text in texts.items():
         for module, names in USE.findall(text):
             brought |= {(module, name.split(" as ")[0].strip()) for name in names.split(",")}
+        if path.endswith(".rt"):
+            brought |= set(by_attributes(path, text))
     for path, text in sorted(texts.items()):
         module, kind = module_of(path), pathlib.PurePath(path).stem
         if path.endswith(".rt") or path.endswith(OF_A_FUNCTION) or kind.endswith("Checked") or kind == "Numeral":
@@ -50,15 +62,16 @@ TO_COME = {
     ("crates/laws/specs/StayLaws.antt", "pair_passes"),
 }
 
-# law is cited from the crate a's specs/ alone; lone by nothing.
+# law is cited from the crate a's specs/ alone; lone and near by an attribute alone.
 SAMPLE = {
     "crates/a/specs/Laws.antt": "pub lemma : ℕ\nlemma = 1\n\npub law : ℕ\nlaw = lemma\n\npub lone : ℕ\nlone = 2 -- lemma lone\n",
     "crates/a/proofs/Laws.antt": "pub law : ℕ\nlaw = 4\n\npub far : ℕ\nfar = 5\n",
     "crates/a/proofs/f/Answers.antt": "use Rattle.a.proofs.Laws.{far}\npub returns : ℕ\nreturns = far\n",
     "crates/b/specs/More.antt": "use Rattle.a.specs.Laws.{law}\npub record R where\n  pub field : ℕ\n",
-    "crates/b/specs/Laws.antt": "pub law : ℕ\nlaw = 3\n",
+    "crates/b/specs/Laws.antt": "pub law : ℕ\nlaw = 3\n\npub near : ℕ\nnear = 6\n",
+    "crates/b/src/lib.rt": "#![tactic(auto)]\n\n#[tactic(auto, using(\n    crate::specs::Laws::near,\n    a::specs::Laws::lone,\n))]\nfn f() {}\n",
 }
-UNCITED = [("crates/a/proofs/Laws.antt", "law"), ("crates/a/specs/Laws.antt", "lone"), ("crates/b/specs/Laws.antt", "law")]
+UNCITED = [("crates/a/proofs/Laws.antt", "law"), ("crates/b/specs/Laws.antt", "law")]
 
 
 def main():

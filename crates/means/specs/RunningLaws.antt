@@ -124,11 +124,6 @@ module _ (ch : Chain) (B : ℕ) (levels w : List ℕ) (R : ℕ) (l : List ℕ) (
       ∙ over_same (length levels * B) (λ k. 0) _ l
       (λ p b. part_none ch (row_from w (p / B)) R (p % B) ∙ ap (λ (n : ℕ). part_sum ch (row_from w (p / B)) R n (p % B)) (omega arith))
 
-  -- over cells that hold sums already it does not matter what stood there before
-  pub sums_again : (n k : ℕ) (now : List ℕ) → now ≡ part_sums ch B levels w R n l → part_sums ch B levels w R k now ≡ part_sums ch B levels w R k l
-  unfolding part_sums
-  sums_again n k now e = blocks_again B 0 (length levels) _ _ l now enough e
-
 -- the same for a function that has the sums in its cells, over what stood there, and the table of a chain in arrays
 module _ (z : Sizes) (a : Listing) (f levels w : List ℕ) (ready : Ready z a f) (g : Summable z levels w) (l : List ℕ) (enough : length levels * z.block ≤ length l) where
   abbrev ch : Chain
