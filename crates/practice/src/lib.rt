@@ -28,7 +28,7 @@ const WRAP: u64 = 4_294_967_296;
 // The tolerance, in billionths.
 const TOLERANCE: u32 = 10_000;
 
-// a × b, cut to 32 bits.
+// a × b, cut to 32 bits: the program's own multiply, as S-6 asks for it, beside std's wrapping add.
 fn wrapping_mul(a: u32, b: u32) -> u32
     ensures { result ≡ a * b % 2 ^ 32 }
 {

@@ -145,7 +145,7 @@ fn put_word_line(pen: &mut Pen, word: &[u8], n: u64)
 }
 
 // Writes the sheet of a run, or of the number of a refusal, at the buffer's start and returns its length. Later bytes stay
-// as they were.
+// as they were. The number is any, and so it is no `Refusal`.
 pub fn write_sheet(outcome: Result<Solved, u8>, out: &mut [u8; ROOM]) -> usize
     ensures { Printed (sheet_shown outcome.entry) out.old out.new result }
 {
