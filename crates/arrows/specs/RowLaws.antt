@@ -1,7 +1,6 @@
 -- A row is listed state by state, and with all rows stored the arrays hold the model's rows. Assumes nothing.
 use Rattle.std.specs.Prelude.{ℕ, suc, ◌+◌, ◌*◌, ◌-◌, ◌≤◌, ◌<◌, ◌≡◌, refl, Bool, true, false, ◌||◌, List, map, eqb, ltb, length, get_or, set, drop}
-use Rattle.std.proofs.Common.{mul-le-mul_right, ◌∙◌, ap, length-drop, length-take-le, get_or-take, get_or-drop, ext_get_or}
-use native.Mathlib.Omega.{arith}
+use Rattle.std.proofs.Common.{mul-le-mul_right, ◌∙◌, ap, length-drop, length-take-le, get_or-take, get_or-drop, ext_get_or, arith}
 use Rattle.std.proofs.lemmas.List.{length-map, get_or-map}
 use Rattle.std.proofs.lemmas.List.Edits.{sets}
 use Rattle.definitions.specs.Sums.{over, rows_stored, pick}

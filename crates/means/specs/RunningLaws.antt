@@ -1,11 +1,7 @@
 -- The running sums: none at first, one n more at a time, and their range.
-use mathlib.Core.List.{List, []}
-use Rattle.std.specs.Prelude.{◌≡◌, refl, Bool, true, false, leb, length, take, drop}
-use Rattle.std.proofs.Math.Path.{sym, ap, ap₂}
-use Rattle.std.proofs.Common.{◌∙◌, le_trans, add-one, arith, le-leb, lt-ltb, le-ltb}
-use Prim.Native.Nat.{ℕ, ◌+◌, ◌-◌, ◌*◌, ◌/◌, ◌%◌, ◌≤◌, ◌<◌, min}
+use Rattle.std.specs.Prelude.{List, [], ◌≡◌, refl, Bool, true, false, leb, length, take, drop, ℕ, ◌+◌, ◌-◌, ◌*◌, ◌/◌, ◌%◌, ◌≤◌, ◌<◌, min, get_or}
+use Rattle.std.proofs.Common.{sym, ap, ap₂, ◌∙◌, le_trans, add-one, arith, le-leb, lt-ltb, le-ltb}
 use Rattle.std.proofs.Math.Decide.{dec_le, dec_lt}
-use Rattle.std.proofs.Math.ListN.{get_or}
 use Rattle.std.proofs.lemmas.Bool.{lt-leb}
 use Rattle.definitions.specs.declared.Sizes.{Sizes}
 use Rattle.definitions.specs.Sums.{over, blocks, pick}

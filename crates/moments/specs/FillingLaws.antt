@@ -1,11 +1,7 @@
 -- The solution of what was read of an accepted file and list is the file's levels and blocks.
-use Rattle.std.specs.Prelude.{List, [], ◌∷◌, ◌≡◌, refl, ltb, length}
-use Rattle.std.proofs.Math.Path.{sym, ap, ap₂}
-use Rattle.std.proofs.Common.{◌∙◌, arith, lt-ltb, le-ltb}
-use Prim.Native.Nat.{ℕ, ◌+◌, ◌*◌, ◌-◌, ◌/◌, ◌%◌, ◌≤◌, ◌<◌}
-use Rattle.std.proofs.Math.Nat.{mul-le-mul_right}
+use Rattle.std.specs.Prelude.{List, [], ◌∷◌, ◌≡◌, refl, ltb, length, ℕ, ◌+◌, ◌*◌, ◌-◌, ◌/◌, ◌%◌, ◌≤◌, ◌<◌, get_or}
+use Rattle.std.proofs.Common.{sym, ap, ap₂, ◌∙◌, arith, lt-ltb, le-ltb, mul-le-mul_right}
 use Rattle.std.proofs.Math.Decide.{dec_lt}
-use Rattle.std.proofs.Math.ListN.{get_or}
 use Rattle.definitions.specs.declared.Sizes.{Sizes}
 use Rattle.definitions.specs.Sums.{largest, over, blocks, pick}
 use Rattle.definitions.specs.File.{state_count, highest_moment, time_field, distributions, weight_field}

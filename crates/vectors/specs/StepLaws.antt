@@ -1,9 +1,6 @@
 -- A vector of 64 states: U(n,0), U(0,r) and U(n,r) as vectors, each from the ones before it, and their range. Assumes nothing.
-use Rattle.std.specs.Prelude.{List, ◌≡◌, get_or}
-use Rattle.std.proofs.Math.Path.{sym, ap}
-use Rattle.std.proofs.Common.{◌∙◌}
-use Prim.Native.Nat.{ℕ, zero, suc, ◌-◌, ◌≤◌, ◌<◌}
-use native.Mathlib.Omega.{arith}
+use Rattle.std.specs.Prelude.{List, ◌≡◌, get_or, ℕ, zero, suc, ◌-◌, ◌≤◌, ◌<◌}
+use Rattle.std.proofs.Common.{sym, ap, ◌∙◌, arith}
 use Rattle.definitions.specs.Chain.{Chain, padded}
 use Rattle.definitions.specs.Vectors.{ONE, reward_share, next_entry, U, vector}
 use Rattle.laws.specs.ListLaws.{over_same}

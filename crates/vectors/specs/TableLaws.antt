@@ -1,9 +1,6 @@
 -- The rows of a table of vectors, and the table of n that is filled row by row over another. Assumes nothing.
-use mathlib.Core.List.{List, []}
-use Rattle.std.specs.Prelude.{◌≡◌, leb, length, get_or, set}
-use Rattle.std.proofs.Common.{sym, ◌∙◌, arith, le-leb}
-use Rattle.std.proofs.Math.Path.{ap}
-use Prim.Native.Nat.{ℕ, ◌+◌, ◌≤◌, ◌<◌}
+use Rattle.std.specs.Prelude.{List, [], ◌≡◌, leb, length, get_or, set, ℕ, ◌+◌, ◌≤◌, ◌<◌}
+use Rattle.std.proofs.Common.{sym, ◌∙◌, arith, le-leb, ap}
 use Rattle.std.proofs.lemmas.List.{length-replicate, get_or-replicate}
 use Rattle.std.proofs.lemmas.Bool.{lt-leb}
 use Rattle.definitions.specs.Sums.{over, pick}

@@ -1,8 +1,6 @@
 -- The last quotient, rounded by its remainder.
-use mathlib.Core.Path.{◌≡◌, ap}
-use Prim.Native.Nat.{◌+◌, ◌*◌, ◌<◌}
-use native.Mathlib.Nat.{mul-le-mul_right}
-use native.Mathlib.Omega.{arith}
+use Rattle.std.specs.Prelude.{◌≡◌, ◌+◌, ◌*◌, ◌<◌}
+use Rattle.std.proofs.Common.{ap, mul-le-mul_right, arith}
 use Rattle.definitions.specs.Vectors.{ONE}
 use Rattle.definitions.specs.Moment.{last_quotient}
 use Rattle.laws.specs.Rounding.{quotient, remainder, quotient_at_most, remainder_below}

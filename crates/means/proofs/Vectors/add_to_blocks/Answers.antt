@@ -1,13 +1,14 @@
 -- The terms are added block by block: from block k on the sums stand as they were.
-use Rattle.std.proofs.Common.{◌≡◌, sym, ◌∙◌, ap, ap₂, List, ℕ, ◌+◌, ◌*◌, ◌-◌, ◌<◌, ◌≤◌, get_or, length, take, drop, length-drop, arith}
+use Rattle.std.specs.Prelude.{◌≡◌, List, ℕ, ◌+◌, ◌*◌, ◌-◌, ◌<◌, ◌≤◌, get_or, length, take, drop}
+use Rattle.std.proofs.Common.{sym, ◌∙◌, ap, ap₂, length-drop, arith}
 use borrow.Author.Rules.{part_to_end}
 use Rattle.laws.specs.BlockLaws.{block_end, blocks_none}
 use Rattle.laws.specs.LevelLaws.{LEVELS}
 use Rattle.means.specs.Running.{in_table, row_from, term_at, of_states}
 use Rattle.means.specs.RunningLaws.{terms_in_block, addable_at}
 use Rattle.means.proofs.Parts.{part, length_part, entry_part, put_back}
-use Rattle.means.proofs.Vectors.add_to_blocks.Goals as goal
 use Rattle.means.proofs.Vectors.add_to_blocks.Goals.{Start, In-loop-k}
+use Rattle.means.proofs.Vectors.add_to_blocks.Goals as goal
 
 abbrev B : Start → ℕ
 B c = c.args.self.now.sizes.block
