@@ -1,8 +1,6 @@
 -- The arithmetic under the proofs of the functions, over plain numbers. Assumes nothing.
-use mathlib.Core.Path.{◌≡◌, ap, ◌∙◌}
-use Prim.Native.Nat.{ℕ, ◌+◌, ◌-◌, ◌*◌, ◌/◌, ◌%◌, ◌^◌, ◌<◌}
-use native.Mathlib.Omega.{arith}
-use lib.Pow.{shr-shr}
+use Rattle.std.specs.Prelude.{◌≡◌, ℕ, ◌+◌, ◌-◌, ◌*◌, ◌/◌, ◌%◌, ◌^◌, ◌<◌}
+use Rattle.std.proofs.Common.{ap, ◌∙◌, shr-shr, arith}
 use Rattle.definitions.specs.declared.Division.{Division}
 use Rattle.definitions.specs.Division.{Divides, division}
 use Rattle.laws.specs.Rounding.{quotient_remainder, drops, remainder}

@@ -1,12 +1,8 @@
 -- The search for the level, over plain numbers: one test of n, and what its answer tells. Assumes nothing.
-use mathlib.Core.Path.{◌≡◌, refl, ap₂, ◌∙◌}
-use mathlib.Core.Bool.{true, false}
-use Prim.Native.Nat.{ℕ, ◌+◌, ◌*◌, ◌-◌, ◌/◌, ◌≤◌, ◌<◌}
-use native.Mathlib.Omega.{arith}
-use native.Mathlib.Nat.{mul-le-mul_left}
-use native.Mathlib.Decide.{ℕ_discrete}
-use lib.Dec.{leb}
-use borrow.Author.Tests.{le-leb, lt-leb}
+use Rattle.std.specs.Prelude.{◌≡◌, ℕ, ◌+◌, ◌*◌, ◌-◌, ◌/◌, ◌≤◌, ◌<◌, true, false, leb}
+use Rattle.std.proofs.Common.{refl, ap₂, ◌∙◌, mul-le-mul_left, le-leb, arith}
+use Rattle.std.proofs.Math.Decide.{ℕ_discrete}
+use Rattle.std.proofs.lemmas.Bool.{lt-leb}
 use Rattle.definitions.specs.Weights.{MILLION, mode, weight}
 use Rattle.definitions.specs.Level.{tail_bound, allowance, passes?, level}
 use Rattle.laws.specs.Rounding.{quotient_at_most}

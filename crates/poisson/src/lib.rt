@@ -79,6 +79,7 @@ fn leftward(x: u64, weights: &mut [u64]) -> u64
 }
 
 // m: q rounded down.
+#[tactic(auto, unfolding(definitions::specs::Weights::mode))]
 fn mode_of(x: u64) -> u64
     ensures { result ≡ mode x }
 {

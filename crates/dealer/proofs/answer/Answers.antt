@@ -1,6 +1,5 @@
 -- The file's bytes lie in the buffer that they were written to.
-use Rattle.std.proofs.Common.{refl, sym}
-use lib.Seq.{length-take-le}
+use Rattle.std.proofs.Common.{refl, sym, length-take-le}
 use Rattle.laws.specs.DealingLaws.{count_inside}
 use Rattle.dealer.proofs.answer.Goals as goal
 

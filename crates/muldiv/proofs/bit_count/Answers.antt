@@ -1,8 +1,8 @@
 -- `muldiv::bit_count` meets its contract. Assumes nothing.
-use mathlib.Core.Path.{◌≡◌}
-use Prim.Native.Nat.{ℕ, ◌-◌, ◌^◌, ◌<◌}
-use native.Mathlib.Omega.{arith}
-use lib.Count.{count_leading_zeros, leading_length}
+use Rattle.std.specs.Prelude.{◌≡◌, ℕ, ◌-◌, ◌^◌, ◌<◌}
+use Rattle.std.proofs.Common.{arith}
+use Rattle.std.proofs.lemmas.Nat.{leading_length}
+use lib.Count.{count_leading_zeros}
 use Rattle.muldiv.specs.MulDiv.{BitCount}
 use Rattle.muldiv.proofs.bit_count.Goals as goal
 

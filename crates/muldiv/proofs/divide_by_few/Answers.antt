@@ -1,5 +1,5 @@
 -- `muldiv::divide_by_few` meets its contract. Assumes nothing.
-use native.Mathlib.Omega.{arith}
+use Rattle.std.proofs.Common.{arith}
 use Rattle.laws.specs.Rounding.{same_parts, between_multiples}
 use Rattle.muldiv.proofs.divide_by_few.Goals as goal
 

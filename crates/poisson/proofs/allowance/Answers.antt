@@ -1,7 +1,5 @@
 -- `poisson::allowance` meets its contract. Assumes nothing.
-use mathlib.Core.Path.{ap}
-use Prim.Native.Nat.{◌*◌}
-use native.Mathlib.Omega.{arith}
+use Rattle.std.proofs.Common.{◌*◌, ap, arith}
 use Rattle.definitions.specs.Level.{BILLION}
 use Rattle.laws.specs.Rounding.{quotient, drops}
 use Rattle.muldiv.specs.QuotientLaws.{scalable_part}
