@@ -2,22 +2,33 @@
 use Prim.Native.Nat.{◌*◌}
 use mathlib.Core.Path.{◌≡◌, ◌∙◌, ap₂}
 use native.Mathlib.Omega.{arith}
+use Rattle.definitions.specs.File.{tolerance_field}
 use Rattle.definitions.specs.Chain.{model_of, jump_millionths}
 use Rattle.definitions.specs.Level.{level}
 use Rattle.definitions.specs.Moment.{model_level}
 use Rattle.remainders.proofs.level_of.Goals as goal
-use Rattle.remainders.proofs.level_of.Goals.{After-jump_millionths-x}
+use Rattle.remainders.proofs.level_of.Goals.{After-tolerance}
 
--- X of the file
-is_jumps : (c : After-jump_millionths-x) → c.jump_millionths-x.result ≡ jump_millionths (model_of c.args.file.now)
-unfolding jump_millionths
-is_jumps c = c.jump_millionths-x.ensures ∙ ap₂ ◌*◌ c.requires.1 c.time.ensures
+-- X and the tolerance are the file's
+module _ (c : After-tolerance) where
+  is : c.file.inside.head ≡ c.args.file.now
+  is = c.file.view_is
 
-pub truncate-cut-requires : goal.truncate-cut-requires
-truncate-cut-requires c =
+  is_jumps : c.jump_millionths-x.result ≡ jump_millionths (model_of c.args.file.now)
+  unfolding jump_millionths
+  is_jumps = c.jump_millionths-x.ensures ∙ ap₂ ◌*◌ c.requires.1 (rw is at c.time.ensures)
+
+  is_tolerance : c.tolerance.result ≡ tolerance_field c.args.file.now
+  is_tolerance = rw is at c.tolerance.ensures
+
+pub truncate-requires : goal.truncate-requires
+truncate-requires c =
+    let d = (goal.at.truncate-requires c).After-tolerance in
     let limits = c.requires.0.limits in
-    omega (arith, is_jumps (goal.at.truncate-cut-requires c).After-jump_millionths-x, limits.jumps_max, limits.tolerance_pos, limits.tolerance_max, c.tolerance-tolerance.ensures)
+    omega (arith, is_jumps d, limits.jumps_max, limits.tolerance_pos, limits.tolerance_max, is_tolerance d)
 
 pub returns : goal.returns
 unfolding model_level
-returns c = c.truncate-cut.ensures.is_level ∙ ap₂ level (is_jumps (goal.at.returns c).After-jump_millionths-x) c.tolerance-tolerance.ensures
+returns c =
+    let d = (goal.at.returns c).After-tolerance in
+    c.truncate.ensures.is_level ∙ ap₂ level (is_jumps d) (is_tolerance d)

@@ -1,30 +1,39 @@
 -- `remainders::remainders` meets its contract: rows 1 to 12 and 16, then what an accepted file gives. Assumes nothing.
-use mathlib.Core.Path.{◌≡◌, ◌∙◌, sym, ap}
-use Rattle.definitions.specs.Rules.{verdict}
-use Rattle.definitions.specs.Remainders.{remainders_of, remainders_answer}
+use mathlib.Core.Path.{◌≡◌, ◌∙◌, sym, ap, subst}
+use Rattle.std.specs.Prelude.{Err}
+use Rattle.std.proofs.Common.{rules}
+use Rattle.definitions.specs.Rules.{accepted}
+use Rattle.definitions.specs.Remainders.{remainders_of, WorkedOut}
 use Rattle.laws.specs.Acceptance.{accepted_model}
 use Rattle.laws.specs.RemainderLaws.{remainders_refused, remainders_accepted, worked_out}
 use Rattle.remainders.proofs.remainders.Goals as goal
+use Rattle.remainders.proofs.remainders.Goals.{After-of_accepted}
+
+pub returns-in_err-file-clause-answer : goal.returns-in_err-file-clause-answer
+returns-in_err-file-clause-answer c =
+    let args = c.args in
+    let gave : c.from_residual.result ≡ Err c.in_err-file.field-0.0 = search rules in
+    rw gave (sym (remainders_refused args.bytes.now args.state args.n args.r _ (sym c.in_err-file.ensures.judged)))
 
 pub of_accepted-requires : goal.of_accepted-requires
 of_accepted-requires c =
-    accepted_model 1 2 c.args.file.now (sym c.judge_file-judgement.ensures ∙ ap verdict c.in-Accepted.is)
+    let is : c.in_ok-file.file ≡ c.args.bytes.now = c.in_ok-file.ensures.same in
+    rw is (accepted_model 1 2 c.args.bytes.now (sym c.in_ok-file.ensures.judged))
 
-pub returns-in-Refused : goal.returns-in-Refused
-returns-in-Refused c =
+-- what an accepted file answers:
+-- what it gives, or none
+answer : (c : After-of_accepted) →
     let args = c.args in
-    let stopped = sym c.judge_file-judgement.ensures ∙ ap verdict c.in-Refused.is in
-    record {
-      answer = sym (remainders_refused args.file.now args.state args.n args.r _ stopped);
-      worked = tt;
-    }
+    accepted c.of_accepted.result ≡ remainders_of args.bytes.now args.state args.n args.r
+answer c =
+    let args = c.args in
+    let is : c.in_ok-file.file ≡ args.bytes.now = c.in_ok-file.ensures.same in
+    ap (λ x. accepted x) (rw is at c.of_accepted.ensures) ∙ sym (remainders_accepted args.bytes.now args.state args.n args.r (sym c.in_ok-file.ensures.judged))
 
-pub returns-in-Accepted : goal.returns-in-Accepted
-returns-in-Accepted c =
+pub returns-clause-answer : goal.returns-clause-answer
+returns-clause-answer c = answer (goal.at.returns-clause-answer c).After-of_accepted
+
+pub returns-clause-worked : goal.returns-clause-worked
+returns-clause-worked c =
     let args = c.args in
-    let passed = sym c.judge_file-judgement.ensures ∙ ap verdict c.in-Accepted.is in
-    let answer : remainders_answer c.of_accepted.result ≡ remainders_of args.file.now args.state args.n args.r = c.of_accepted.ensures ∙ sym (remainders_accepted args.file.now args.state args.n args.r passed) in
-    record {
-      answer = answer;
-      worked = rw answer (worked_out args.file.now args.state args.n args.r);
-    }
+    subst (λ x. WorkedOut x args.bytes.now args.state args.n args.r) (sym (answer (goal.at.returns-clause-worked c).After-of_accepted)) (worked_out args.bytes.now args.state args.n args.r)

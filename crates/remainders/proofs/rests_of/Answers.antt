@@ -4,18 +4,14 @@ use mathlib.Core.Path.{◌≡◌, ◌∙◌, ap}
 use native.Mathlib.Omega.{arith}
 use Rattle.definitions.specs.declared.Sizes.{Sizes}
 use Rattle.definitions.specs.File.{state_count}
-use Rattle.definitions.specs.Chain.{Model, Listing, model_of, chain_of, uniform_rate, listed}
+use Rattle.definitions.specs.Chain.{Model, Listing, model_of, chain_of, listed}
 use Rattle.laws.specs.ChainLaws.{square_max}
 use Rattle.laws.proofs.MomentLaws.{level_range}
 use Rattle.laws.specs.RemainderLaws.{rests_same}
 use Rattle.arrows.specs.RowLaws.{rows_listed}
 use Rattle.vectors.specs.ModelLaws.{Held, held_ready, held_same}
 use Rattle.remainders.proofs.rests_of.Goals as goal
-use Rattle.remainders.proofs.rests_of.Goals.{After-rewards-1, Start}
-
--- E among the sizes
-rate_is : (start : Start) → start.args.sizes.rate ≡ uniform_rate (model_of start.args.file.now)
-rate_is start = ap (λ (z : Sizes). z.rate) start.requires.sums_value.1
+use Rattle.remainders.proofs.rests_of.Goals.{After-rewards-rewards, Start}
 
 -- the rows of at most 64 states have their room
 enough : (start : Start) → state_count start.args.file.now * state_count start.args.file.now ≤ 64 * 64
@@ -23,47 +19,51 @@ enough start = square_max (state_count start.args.file.now) 64 start.requires.ac
 
 pub list_rows-requires : goal.list_rows-requires
 list_rows-requires c =
-    let start = (goal.at.list_rows-requires c).Start in
+    let room = enough (goal.at.list_rows-requires c).Start in
+    let rate = ap (λ (z : Sizes). z.rate) c.requires.sums_value.1 in
+    let limits = c.requires.accepted_model.0.limits in
     record {
-      framed = c.requires.accepted_model.0.framed;
-      file_in_bounds = (enough start, enough start, c.requires.accepted_model.0.limits.states_max);
+      file_in_bounds = (room, room, limits.states_max);
       sums_value = c.requires.sums_value.0;
-      rate_value = (rate_is start, omega (arith, rate_is start, c.requires.accepted_model.0.limits.rate_max));
+      rate_value = (rate, omega (arith, rate, limits.rate_max));
     }
 
 -- the arrays that were read hold the file's chain
-module _ (c : After-rewards-1) where
-  abbrev start : Start
-  start = (goal.at.After-rewards-1 c).Start
-
+module _ (c : After-rewards-rewards) where
   abbrev m : Model
-  m = model_of start.args.file.now
+  m = model_of c.args.file.now
 
   abbrev rows : Listing
   rows =
       let last = c.list_rows.new in
       listed last.targets last.rates last.counts
 
-  read : Held m start.args.sizes rows c.rewards_of-rewards.result
+  read : Held m c.args.sizes rows c.rewards-rewards.result
   read =
+      let room = enough (goal.at.After-rewards-rewards c).Start in
       let after = c.list_rows.ensures in
       record {
-        sizes = start.requires.sums_value.1;
-        rows = rows_listed m _ _ _ _ _ _ (enough start) (enough start) after.targets after.rates after.counts;
-        rewards = c.rewards_of-rewards.ensures;
+        sizes = c.requires.sums_value.1;
+        rows = rows_listed m _ _ _ _ _ _ room room after.targets after.rates after.counts;
+        rewards = c.rewards-rewards.ensures;
       }
+
+pub invariant_of-chain : goal.invariant_of-chain
+invariant_of-chain c =
+    let d = (goal.at.invariant_of-chain c).After-rewards-rewards in
+    record { ready = held_ready (m d) (m d).time (read d) c.requires.accepted_model.0.limits }
 
 pub rests_at-requires : goal.rests_at-requires
 rests_at-requires c =
-    let limits = (start c).requires.accepted_model.0.limits in
-    let within = (start c).requires.accepted_model.1 in
-    let highest : (start c).args.sizes.highest ≡ (m c).highest = ap (λ (z : Sizes). z.highest) (read c).sizes in
-    let states : (start c).args.sizes.states ≡ (m c).states = ap (λ (z : Sizes). z.states) (read c).sizes in
+    let d = (goal.at.rests_at-requires c).After-rewards-rewards in
+    let limits = c.requires.accepted_model.0.limits in
+    let within = c.requires.accepted_model.1 in
+    let highest : c.args.sizes.highest ≡ (m d).highest = ap (λ (z : Sizes). z.highest) (read d).sizes in
+    let states : c.args.sizes.states ≡ (m d).states = ap (λ (z : Sizes). z.states) (read d).sizes in
     record {
-      ready = held_ready (m c) (m c).time (read c) limits;
       highest_max = omega (arith, highest, limits.highest_max);
       jumps_min = within.jumps_min;
-      jumps_max = omega (arith, within.jumps_max, (level_range (m c) limits).1);
+      jumps_max = omega (arith, within.jumps_max, (level_range (m d) limits).1);
       moment_min = within.moment_min;
       moment_max = omega (arith, highest, within.moment_max);
       state = omega (arith, states, within.state_min, within.state_max);
@@ -71,11 +71,9 @@ rests_at-requires c =
 
 pub returns : goal.returns
 returns c =
-    let args = (start (goal.at.returns c).After-rewards-1).args in
-    let states : args.sizes.states ≡ (m (goal.at.returns c).After-rewards-1).states = ap (λ (z : Sizes). z.states) (read (goal.at.returns c).After-rewards-1).sizes in
-    let within = (start (goal.at.returns c).After-rewards-1).requires.accepted_model.1 in
+    let d = (goal.at.returns c).After-rewards-rewards in
+    let args = c.args in
+    let within = c.requires.accepted_model.1 in
+    let states : args.sizes.states ≡ (m d).states = ap (λ (z : Sizes). z.states) (read d).sizes in
     c.rests_at.ensures
-    ∙ rests_same _ (chain_of (m (goal.at.returns c).After-rewards-1)) (held_same (m (goal.at.returns c).After-rewards-1) (read (goal.at.returns c).After-rewards-1) (start (goal.at.returns c).After-rewards-1).requires.accepted_model.0.limits.states_max) args.n args.r (args.state - 1) (omega (arith, states, within.state_min, within.state_max))
-
-pub overflow_sub-state : goal.overflow_sub-state
-overflow_sub-state c = omega (arith, (start c).requires.accepted_model.1.state_min)
+    ∙ rests_same _ (chain_of (m d)) (held_same (m d) (read d) c.requires.accepted_model.0.limits.states_max) args.n args.r (args.state - 1) (omega (arith, states, within.state_min, within.state_max))
