@@ -157,6 +157,7 @@ fn divide_blocks(totals: &[u64], block: usize, cells: &mut [u64])
 }
 
 // For each X its level, its S(N) and its row of weights. Returns the largest level: it need not be that of the last X.
+// The levels stand in a list of their own, since the caller lends it.
 fn truncate_each(
     xs: &[u64],
     tolerance: u64,
