@@ -50,6 +50,7 @@ pub fn truncate(x: u64, tolerance: u64, weights: &mut [u64]) -> Truncation
 {
     let mut sum = leftward(x, weights);
     let mut at = Jumps::most_likely(x);
+    // A range would count beside `at` what `at` counts.
     loop {
         if at.passes(sum, tolerance) {
             return Truncation { level: at.n, sum };

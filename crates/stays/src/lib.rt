@@ -1,7 +1,7 @@
 // Rates from a workshop log (document 02, S-12): a record of the latest stays, with the count of each pair of states and the hours in each state.
 //
-// What a record has come to is said by the stays offered to it (`Comes`), and holds of every record: its fields are closed to other crates, and each
-// record keeps its last stays with their tally (`Keeps`).
+// A record is known by the stays that were offered to it (`Comes`). Its fields are closed to other crates, and what holds of every record is the type's
+// invariant: it keeps its last stays with their tally (`Keeps`).
 #![tactic(auto)]
 
 ghost use Rattle.std.specs.Prelude.{◌≡◌, ◌+◌, ◌*◌, ◌-◌, ◌<◌, ◌≤◌, length, eqb};
