@@ -17,10 +17,6 @@ in_range low high x h = grind arith
 pub is_inside : (low high x : ℕ) → low ≤ x → x ≤ high → outside low high x ≡ false
 is_inside low high x l h = ap₂ ◌||◌ (le-ltb x low l) (le-ltb high x h)
 
--- with an equal limit the test says the same
-pub same_limit : {high' : ℕ} (low high x : ℕ) → high' ≡ high → outside low high' x ≡ outside low high x
-same_limit low high x e = ap (λ (k : ℕ). outside low k x) e
-
 -- what rows 4 and 5 let pass
 pub dimensions_by : (M R : ℕ) → NoneHold (dimensions M R) → ((1 ≤ M) × (M ≤ 64)) × ((1 ≤ R) × (R ≤ 8))
 dimensions_by M R row = grind arith
