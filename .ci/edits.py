@@ -6,7 +6,7 @@
                                           where the refusal that a log shows is no fact that fails, or where no edit
                                           changes the body of a public function
 
-The crates of TO_COME are being written, and have no edits yet. A log shows the first 160 characters of an edit's first refusal that follows from no missing name. SAMPLES is tried first.
+A log shows the first 160 characters of an edit's first refusal that follows from no missing name. SAMPLES is tried first.
 """
 
 import argparse
@@ -30,8 +30,6 @@ refused because a fact fails: the first refusal that `rt ci` shows is either a c
 or two sides of a goal that differ. "Refused in" names the module or the function whose proof
 fails, and the fact: `returns` is what the function ensures, `F-x-requires` what F asks of the call that gives x, `loop-i-init` and `loop-i-preserved` the invariant of a loop over i at the start and after a round.
 Most edits keep the code's shape. Some need an operator, a statement or a test more, as `muldiv/to_the_nearest`, where a half has to be added, `moments/levels_written_on_a_refusal`, which adds a test, or `practice/bytes_cleared_on_a_refusal`, which adds a store; where that would move the proof's paths, the edit moves them by as much, so that the fact is what fails.
-
-The crate `stays`, which is being written, has none yet.
 
 Three limits. A refused law is not a false law: `one_tick_less_at_the_level`, `half_the_vector_error` and `last_level_one_less` show that the proof does not reach the tighter bound.
 And the arithmetic tactic takes a product of two unknowns as one more unknown, so that a counterexample such as `P` = 0 with `P * ZN` = 1 need not be a model.
@@ -142,10 +140,6 @@ def self_test():
     return wrong
 
 
-# Crates that have no edits yet.
-TO_COME = {"stays"}
-
-
 # --- The page -------------------------------------------------------------------------------------------------
 
 def edits():
@@ -165,8 +159,6 @@ def untouched(listed):
                 changes.setdefault((crate, name), []).append(line[5:])
     for path in sorted(ROOT.glob("crates/*/src/**/*.rt")):
         crate, *rest = path.relative_to(ROOT / "crates").parts
-        if crate in TO_COME - {name for name, _, _ in listed}:
-            continue
         name = "/".join(rest)
         text = path.read_text(encoding="utf-8")
         places = [text.find(old) for old in changes.get((crate, name), [])]
