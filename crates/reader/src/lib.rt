@@ -5,18 +5,16 @@
 // the file is as long as M and its version say. What stops a file is judged in the crate refusals.
 #![tactic(auto)]
 
-ghost use Rattle.std.specs.Prelude.{◌≡◌, ℕ, List, ◌↔◌, ◌+◌, ◌-◌, ◌*◌, ◌≤◌, ◌<◌, ◌^◌, eqb, length, drop, All, IfSome, IsNone};
-ghost use Rattle.std.specs.List as list;
+ghost use Rattle.std.specs.Prelude.{◌≡◌, ℕ, List, ◌↔◌, ◌+◌, ◌-◌, ◌*◌, ◌≤◌, ◌<◌, ◌^◌, eqb, length, drop, IfSome, IsNone};
 ghost use Rattle.definitions.specs.Sums.{sum, largest, pick};
 ghost use Rattle.definitions.specs.Bytes.{big};
 ghost use Rattle.definitions.specs.File.{length_field, version, state_count, highest_moment, tolerance_field, time_field, distributions, weight_field, rewards_at, reward_field, row_at, place};
-ghost use Rattle.definitions.specs.Chain.{model_of, jump_rate, row_sum, uniform_rate, max_reward, padded, sizes_of};
+ghost use Rattle.definitions.specs.Chain.{model_of, row_sum, uniform_rate, max_reward, padded, sizes_of};
 ghost use Rattle.definitions.specs.Rules.{block_size};
 ghost use Rattle.laws.specs.Acceptance.{Framed};
 ghost use Rattle.laws.specs.ArrayLaws.{entry_of};
 
 use definitions::Sizes;
-use std::array;
 use std::marker::Model;
 
 // 1. Where the file's numbers stand. No offset is written anywhere else.
@@ -50,14 +48,6 @@ fn be(bytes: &[u8], at: usize, width: usize) -> u64
         value = value * 256 + u64::from(byte);
     }
     value
-}
-
-// The sum of some values.
-fn total(values: &[u64]) -> u64
-    requires { list.sum values.now < 2 ^ 64 }
-    ensures { result ≡ list.sum values.now }
-{
-    values.iter().sum()
 }
 
 // The largest of some values, and 0 of none.
@@ -161,6 +151,19 @@ pub fn entry_in(row: &[u8], i: usize, j: usize, diagonal: u64) -> u64
     be(row, 4 * (j - 1), 4)
 }
 
+// f at each state, for 64 states: 0 past them.
+fn for_states<F: Fn(usize) -> u64>(states: usize, f: F) -> [u64; 64]
+    requires few { states ≤ 64 }
+    requires pre { (i : ℕ) → i < states → F.pre f i }
+    ensures { (v : ℕ → ℕ) → ((i x : ℕ) → i < states → F.post f i x → x ≡ v i) → result ≡ padded states v }
+{
+    let mut values = [0; 64];
+    for (i, value) in values[..states].iter_mut().enumerate() {
+        *value = f(i);
+    }
+    values
+}
+
 // A framed file. A clause sees its bytes.
 #[derive(Drop)]
 pub struct ModelFile<'a> {
@@ -206,22 +209,15 @@ impl<'a> ModelFile<'a> {
     // M numbers of 4 bytes each from a place on, for 64 states: 0 past M.
     fn numbers_at(&self, at: usize) -> [u64; 64]
         requires { at ≤ rewards_at self.now }
-        ensures value { result ≡ padded (state_count self.now) (λ i. big 4 self.now (at + 4 * i)) }
-        ensures small { All (λ n. n < 2 ^ 32) result }
+        ensures { result ≡ padded (state_count self.now) (λ i. big 4 self.now (at + 4 * i)) }
     {
         let bytes = self.bytes();
-        let states = self.head.state_count();
-        array::from_fn(|i| if i < states {
-            be(bytes, at + 4 * i, 4)
-        } else {
-            0
-        })
+        for_states(self.head.state_count(), |i| be(bytes, at + 4 * i, 4))
     }
 
     // The starting weights, in millionths, for 64 states: 0 past M. They are asked for where the file holds them.
     pub fn weights(&self) -> [u64; 64]
         ensures value { result ≡ padded (state_count self.now) (weight_field self.now) }
-        ensures small { All (λ weight. weight < 2 ^ 32) result }
     {
         self.numbers_at(WEIGHTS_AT)
     }
@@ -230,7 +226,13 @@ impl<'a> ModelFile<'a> {
     pub fn weight_sum(&self) -> u64
         ensures { result ≡ sum (state_count self.now) (weight_field self.now) }
     {
-        total(&self.weights()[..self.head.state_count()])
+        let bytes = self.bytes();
+        let mut total = 0;
+        // A loop: for a chain the bound of its sum is not found, and an array first takes longer.
+        for i in 0..self.head.state_count() {
+            total += be(bytes, WEIGHTS_AT + 4 * i, 4);
+        }
+        total
     }
 
     // f for 64 states: the reward rates, 0 past M.
@@ -264,35 +266,25 @@ impl<'a> ModelFile<'a> {
         &self.bytes()[self.row_at(i)..]
     }
 
-    // The rates of row i for 64 states: 0 at i itself and past M.
-    fn rates(&self, i: usize) -> [u64; 64]
-        requires { i < state_count self.now }
-        ensures value { result ≡ padded (state_count self.now) (jump_rate (model_of self.now) i) }
-        ensures small { All (λ rate. rate < 2 ^ 32) result }
-    {
-        let row = self.row(i);
-        let states = self.head.state_count();
-        array::from_fn(|j| if j < states {
-            entry_in(row, i, j, 0)
-        } else {
-            0
-        })
-    }
-
-    // Their sum.
+    // The sum of row i's rates.
     fn row_sum(&self, i: usize) -> u64
         requires { i < state_count self.now }
         ensures { result ≡ row_sum (model_of self.now) i }
     {
-        total(&self.rates(i)[..self.head.state_count()])
+        let row = self.row(i);
+        let mut total = 0;
+        // A loop, for the same reasons.
+        for j in 0..self.head.state_count() {
+            total += entry_in(row, i, j, 0);
+        }
+        total
     }
 
     // The row sums for 64 states, 0 past M.
     pub fn row_sums(&self) -> [u64; 64]
         ensures { result ≡ padded (state_count self.now) (row_sum (model_of self.now)) }
     {
-        let states = self.head.state_count();
-        array::from_fn(|i| if i < states { self.row_sum(i) } else { 0 })
+        for_states(self.head.state_count(), |i| self.row_sum(i))
     }
 
     // E, the uniformization rate: the largest row sum, or 1 where all row sums are 0.

@@ -1,18 +1,38 @@
--- `reader::ModelFile::row_sum` meets its contract. Assumes nothing.
-use mathlib.Core.Path.{◌≡◌, ◌∙◌}
-use Rattle.std.proofs.Common.{rules}
+-- `reader::ModelFile::row_sum` meets its contract: after j turns the total is the sum of the row's first j entries. Assumes nothing.
+use Prim.Native.Nat.{◌+◌, ◌<◌}
+use mathlib.Core.Path.{◌≡◌, sym, ◌∙◌, ap₂}
+use native.Mathlib.Omega.{arith}
 use Rattle.definitions.specs.File.{state_count}
 use Rattle.definitions.specs.Chain.{model_of, jump_rate, row_sum}
-use Rattle.reader.proofs.Arrays.{sum_at_states, sum_small}
+use Rattle.laws.specs.Acceptance.{Framed}
+use Rattle.laws.specs.SumLaws.{sum_zero, sum_more}
+use Rattle.reader.specs.Framed.{entry_room, entry_in_row}
 use Rattle.reader.proofs.ModelFile.row_sum.Goals as goal
 
-pub total-requires : goal.total-requires
-total-requires c = sum_small c.state_count.result c.rates.result (search rules) c.rates.ensures.small
+pub loop-j-init : goal.loop-j-init
+loop-j-init c = (sym (sum_zero _), omega arith)
+
+pub entry_in-total-requires : goal.entry_in-total-requires
+entry_in-total-requires c other =
+    let file = c.args.self.now in
+    let is : c.self.inside.head ≡ file = c.self.view_is in
+    let framed : Framed file = rw is at c.self.invariant in
+    let state : c.loop-j.j < state_count file = rw (c.state_count-j-end.ensures, is) at c.loop-j-test.true in
+    rw c.row-row.ensures (entry_room file c.args.i c.loop-j.j framed c.requires state other)
+
+pub loop-j-preserved : goal.loop-j-preserved
+loop-j-preserved c =
+    let now = c.loop-j in
+    let file = c.args.self.now in
+    let entry : c.entry_in-total.result ≡ jump_rate (model_of file) c.args.i now.j =
+    unfold jump_rate in rw (c.row-row.ensures, entry_in_row file c.args.i now.j 0) at c.entry_in-total.ensures.0 in
+    (ap₂ ◌+◌ now.invariant.0 entry ∙ sym (sum_more now.j (jump_rate (model_of file) c.args.i)), omega (arith, c.entry_in-total.ensures.1 (omega arith)))
 
 pub returns : goal.returns
 unfolding row_sum
 returns c =
     let file = c.args.self.now in
     let is : c.self.inside.head ≡ file = c.self.view_is in
-    let few = rw is at c.self.invariant.states_max in
-    c.total.ensures ∙ sum_at_states (state_count file) c.state_count.result (jump_rate (model_of file) c.args.i) c.rates.result few (rw is at c.state_count.ensures) c.rates.ensures.value
+    let states : c.state_count-j-end.result ≡ state_count file = rw is at c.state_count-j-end.ensures in
+    let all : c.loop-j.j ≡ state_count file = omega (arith, states) in
+    rw all at c.loop-j.invariant.0

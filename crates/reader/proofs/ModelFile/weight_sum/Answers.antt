@@ -1,16 +1,15 @@
--- `reader::ModelFile::weight_sum` meets its contract. Assumes nothing.
-use mathlib.Core.Path.{◌≡◌, ◌∙◌}
-use Rattle.std.proofs.Common.{rules}
-use Rattle.definitions.specs.File.{state_count, weight_field}
-use Rattle.reader.proofs.Arrays.{sum_at_states, sum_small}
+-- `reader::ModelFile::weight_sum` meets its contract: after i turns the total is the sum of the first i weights. Assumes nothing.
+use Prim.Native.Nat.{◌+◌}
+use mathlib.Core.Path.{sym, ◌∙◌, ap₂}
+use native.Mathlib.Omega.{arith}
+use Rattle.definitions.specs.File.{weight_field}
+use Rattle.laws.specs.SumLaws.{sum_zero, sum_more}
 use Rattle.reader.proofs.ModelFile.weight_sum.Goals as goal
 
-pub total-requires : goal.total-requires
-total-requires c = sum_small c.state_count.result c.weights.result (search rules) c.weights.ensures.small
+pub loop-i-init : goal.loop-i-init
+loop-i-init c = (sym (sum_zero _), omega arith)
 
-pub returns : goal.returns
-returns c =
-    let file = c.args.self.now in
-    let is : c.self.inside.head ≡ file = c.self.view_is in
-    let few = rw is at c.self.invariant.states_max in
-    c.total.ensures ∙ sum_at_states (state_count file) c.state_count.result (weight_field file) c.weights.result few (rw is at c.state_count.ensures) c.weights.ensures.value
+pub loop-i-preserved : goal.loop-i-preserved
+loop-i-preserved c =
+    let turn = c.loop-i in
+    (ap₂ ◌+◌ turn.invariant.0 c.be-total.ensures.0 ∙ sym (sum_more turn.i (weight_field c.bytes-bytes.result.now)), omega (arith, c.be-total.ensures.1))
