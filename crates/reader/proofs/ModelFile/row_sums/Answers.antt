@@ -1,6 +1,6 @@
 -- `reader::ModelFile::row_sums` meets its contract. Assumes nothing.
 use mathlib.Core.Path.{◌≡◌}
-use Rattle.std.proofs.Common.{rules}
+use Rattle.std.proofs.Common.{arith}
 use Rattle.definitions.specs.Chain.{model_of, row_sum}
 use Rattle.reader.proofs.ModelFile.row_sums.Goals as goal
 
@@ -8,4 +8,4 @@ pub returns : goal.returns
 returns c =
     let file = c.args.self.now in
     let is : c.self.inside.head ≡ file = c.self.view_is in
-    rw (c.state_count.ensures, is) at (c.for_states.ensures (row_sum (model_of file)) (λ i x l h. search rules))
+    rw (c.state_count.ensures, is) at (c.for_states.ensures (row_sum (model_of file)) (λ i x l h. omega arith))
