@@ -1,13 +1,10 @@
 -- `reader::be` meets its contract: after k bytes the value is the number of k bytes. Assumes nothing.
-use Prim.Native.Nat.{ℕ, ◌+◌, ◌-◌, ◌<◌, ◌≤◌, ◌^◌, ◌*◌}
-use mathlib.Core.List.{List}
-use mathlib.Core.Path.{◌≡◌, sym, ap₂, ◌∙◌}
-use native.Mathlib.Omega.{arith}
-use lib.ListN.{length, get_or, take, drop}
+use Rattle.std.specs.Prelude.{ℕ, ◌+◌, ◌-◌, ◌<◌, ◌≤◌, ◌^◌, ◌*◌, List, ◌≡◌, length, get_or, take, drop}
+use Rattle.std.proofs.Common.{sym, ap₂, ◌∙◌, arith}
 use Rattle.std.proofs.lemmas.List.{get_or-take, get_or-drop, length-drop, length-take-le}
 use Rattle.laws.specs.ByteLaws.{big_none, big_more, below_more, below_wider}
-use Rattle.reader.proofs.be.Goals as goal
 use Rattle.reader.proofs.be.Goals.{After-from}
+use Rattle.reader.proofs.be.Goals as goal
 
 part : (s : List ℕ) (at width : ℕ) → at + width ≤ length s → length (take (at + width - at) (drop at s)) ≡ width
 part s at width room =

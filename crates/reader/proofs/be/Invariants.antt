@@ -1,5 +1,4 @@
-use Prim.Native.Nat.{◌<◌, ◌^◌}
-use mathlib.Core.Path.{◌≡◌}
+use Rattle.std.specs.Prelude.{◌<◌, ◌^◌, ◌≡◌}
 use Rattle.definitions.specs.Bytes.{big}
 use Rattle.reader.proofs.be.Given as goal
 

@@ -1,11 +1,8 @@
 -- `reader::entry_in` meets its contract: before the diagonal state j is at place j, past it at j − 1. Assumes nothing.
-use Prim.Native.Nat.{◌+◌, ◌*◌, ◌-◌, ◌≤◌}
-use mathlib.Core.Path.{refl}
-use native.Mathlib.Omega.{arith}
-use lib.ListN.{length}
-use borrow.Author.Tests.{eq-eqb, ne_eqb, lt-ltb, le-ltb}
-use Rattle.reader.proofs.entry_in.Goals as goal
+use Rattle.std.specs.Prelude.{◌+◌, ◌*◌, ◌-◌, ◌≤◌, refl, length}
+use Rattle.std.proofs.Common.{arith, eq-eqb, ne_eqb, lt-ltb, le-ltb}
 use Rattle.reader.proofs.entry_in.Goals.{Else-j-i-2, Then-j-i-2}
+use Rattle.reader.proofs.entry_in.Goals as goal
 
 pub returns-then-j-i : goal.returns-then-j-i
 returns-then-j-i c =

@@ -1,8 +1,6 @@
 -- `reader::for_states` meets its contract: whatever gives what f gives, the states passed have it. Assumes nothing.
-use Prim.Native.Nat.{◌<◌}
-use mathlib.Core.Path.{◌≡◌, ◌∙◌, sym}
-use native.Mathlib.Omega.{arith}
-use lib.ListN.{length}
+use Rattle.std.specs.Prelude.{◌<◌, ◌≡◌, length}
+use Rattle.std.proofs.Common.{◌∙◌, sym, arith}
 use Rattle.laws.specs.ListLaws.{over_none, over_store}
 use Rattle.reader.proofs.Arrays.{fresh, length_fresh, fresh_padded}
 use Rattle.reader.proofs.for_states.Goals as goal

@@ -1,5 +1,4 @@
-use Prim.Native.Nat.{ℕ, ◌<◌}
-use mathlib.Core.Path.{◌≡◌}
+use Rattle.std.specs.Prelude.{ℕ, ◌<◌, ◌≡◌}
 use Rattle.definitions.specs.Sums.{over}
 use Rattle.reader.proofs.for_states.Given as goal
 

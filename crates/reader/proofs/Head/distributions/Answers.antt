@@ -1,5 +1,5 @@
 -- `reader::Head::distributions` meets its contract. Assumes nothing.
-use native.Mathlib.Omega.{arith}
+use Rattle.std.proofs.Common.{arith}
 use Rattle.laws.specs.ChainLaws.{version_2, other_version}
 use Rattle.reader.proofs.Head.distributions.Goals as goal
 

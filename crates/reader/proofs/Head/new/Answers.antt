@@ -1,6 +1,6 @@
 -- `search` would prove it with no file; this one makes the refusal of a wrong length say where it fails.
-use mathlib.Core.Path.{refl}
-use native.Mathlib.Omega.{arith}
+use Rattle.std.specs.Prelude.{refl}
+use Rattle.std.proofs.Common.{arith}
 use Rattle.reader.proofs.Head.new.Goals as goal
 
 pub returns-then-bytes-lt-HEADER-clause-none : goal.returns-then-bytes-lt-HEADER-clause-none

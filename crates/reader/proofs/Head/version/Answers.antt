@@ -1,5 +1,5 @@
 -- `search` would prove it with no file; this one makes the refusal of a wrong byte say where it fails.
-use mathlib.Core.Path.{◌≡◌}
+use Rattle.std.specs.Prelude.{◌≡◌}
 use Rattle.reader.proofs.Head.version.Goals as goal
 
 pub returns : goal.returns

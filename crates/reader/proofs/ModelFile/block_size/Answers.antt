@@ -1,13 +1,12 @@
 -- `reader::ModelFile::block_size` meets its contract. Assumes nothing.
-use Prim.Native.Nat.{◌+◌, ◌*◌, ◌≤◌}
-use mathlib.Core.Path.{◌≡◌, ap₂}
-use native.Mathlib.Omega.{arith}
+use Rattle.std.specs.Prelude.{◌+◌, ◌*◌, ◌≤◌, ◌≡◌}
+use Rattle.std.proofs.Common.{ap₂, arith}
 use Rattle.definitions.specs.File.{highest_moment}
 use Rattle.definitions.specs.Rules.{block_size}
 use Rattle.laws.specs.ChainLaws.{distributions_max}
 use Rattle.laws.specs.Acceptance.{block_max}
-use Rattle.reader.proofs.ModelFile.block_size.Goals as goal
 use Rattle.reader.proofs.ModelFile.block_size.Goals.{After-highest_moment}
+use Rattle.reader.proofs.ModelFile.block_size.Goals as goal
 
 pub overflow_add-rows : goal.overflow_add-rows
 overflow_add-rows c = omega (arith, c.self.invariant.states_max, distributions_max c.self.inside.head)

@@ -1,5 +1,5 @@
 -- `search` would prove it with no file; this one makes the refusal of a wrong part say where it fails.
-use mathlib.Core.Path.{◌≡◌}
+use Rattle.std.specs.Prelude.{◌≡◌}
 use Rattle.std.proofs.Common.{rules}
 use Rattle.reader.proofs.ModelFile.bytes.Goals as goal
 

@@ -1,6 +1,5 @@
 -- `reader::ModelFile::numbers_at` meets its contract. Assumes nothing.
-use Prim.Native.Nat.{◌+◌, ◌*◌}
-use mathlib.Core.Path.{◌≡◌}
+use Rattle.std.specs.Prelude.{◌+◌, ◌*◌, ◌≡◌}
 use Rattle.std.proofs.Common.{rules}
 use Rattle.definitions.specs.Bytes.{big}
 use Rattle.reader.proofs.ModelFile.numbers_at.Goals as goal

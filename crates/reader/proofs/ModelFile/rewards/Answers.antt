@@ -1,5 +1,5 @@
 -- `search` would prove it with no file; this one makes the refusal of a wrong place say where it fails.
-use native.Mathlib.Omega.{arith}
+use Rattle.std.proofs.Common.{arith}
 use Rattle.reader.proofs.ModelFile.rewards.Goals as goal
 
 pub numbers_at-requires : goal.numbers_at-requires

@@ -1,7 +1,7 @@
 -- `search` would prove it with no file; this one makes the refusal of a wrong row say where it fails.
-use mathlib.Core.Path.{◌∙◌, ap₂}
+use Rattle.std.specs.Prelude.{drop}
+use Rattle.std.proofs.Common.{◌∙◌, ap₂}
 use borrow.Author.Rules.{part_to_end}
-use lib.ListN.{drop}
 use Rattle.reader.proofs.ModelFile.row.Goals as goal
 
 pub returns : goal.returns

@@ -1,12 +1,11 @@
 -- `reader::ModelFile::row_at` meets its contract: the row starts inside the file. Assumes nothing.
-use Prim.Native.Nat.{ℕ, ◌+◌, ◌*◌, ◌-◌, ◌≤◌}
-use mathlib.Core.Path.{◌≡◌, ap₂}
-use native.Mathlib.Omega.{arith}
+use Rattle.std.specs.Prelude.{ℕ, ◌+◌, ◌*◌, ◌-◌, ◌≤◌, ◌≡◌}
+use Rattle.std.proofs.Common.{ap₂, arith}
 use Rattle.definitions.specs.File.{row_at}
 use Rattle.laws.specs.Acceptance.{Framed, length_max}
 use Rattle.reader.specs.Framed.{row_room}
-use Rattle.reader.proofs.ModelFile.row_at.Goals as goal
 use Rattle.reader.proofs.ModelFile.row_at.Goals.{After-rewards_at}
+use Rattle.reader.proofs.ModelFile.row_at.Goals as goal
 
 module _ (c : After-rewards_at) where
   is : c.self.inside.head ≡ c.args.self.now

@@ -1,7 +1,6 @@
 -- `reader::ModelFile::row_sum` meets its contract: after j turns the total is the sum of the row's first j entries. Assumes nothing.
-use Prim.Native.Nat.{◌+◌, ◌<◌}
-use mathlib.Core.Path.{◌≡◌, sym, ◌∙◌, ap₂}
-use native.Mathlib.Omega.{arith}
+use Rattle.std.specs.Prelude.{◌+◌, ◌<◌, ◌≡◌}
+use Rattle.std.proofs.Common.{sym, ◌∙◌, ap₂, arith}
 use Rattle.definitions.specs.File.{state_count}
 use Rattle.definitions.specs.Chain.{model_of, jump_rate, row_sum}
 use Rattle.laws.specs.Acceptance.{Framed}

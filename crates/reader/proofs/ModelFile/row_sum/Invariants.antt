@@ -1,5 +1,4 @@
-use Prim.Native.Nat.{◌*◌, ◌≤◌}
-use mathlib.Core.Path.{◌≡◌}
+use Rattle.std.specs.Prelude.{◌*◌, ◌≤◌, ◌≡◌}
 use Rattle.definitions.specs.Sums.{sum}
 use Rattle.definitions.specs.Chain.{model_of, jump_rate}
 use Rattle.reader.proofs.ModelFile.row_sum.Given as goal

@@ -1,5 +1,5 @@
 -- `reader::ModelFile::row_sums` meets its contract. Assumes nothing.
-use mathlib.Core.Path.{◌≡◌}
+use Rattle.std.specs.Prelude.{◌≡◌}
 use Rattle.std.proofs.Common.{arith}
 use Rattle.definitions.specs.Chain.{model_of, row_sum}
 use Rattle.reader.proofs.ModelFile.row_sums.Goals as goal

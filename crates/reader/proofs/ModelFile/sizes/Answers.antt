@@ -1,5 +1,5 @@
 -- `search` would prove it with no file; this one makes the refusal of a wrong size say where it fails.
-use mathlib.Core.Path.{◌≡◌}
+use Rattle.std.specs.Prelude.{◌≡◌}
 use Rattle.reader.specs.SizesRead.{sizes_read}
 use Rattle.reader.proofs.ModelFile.sizes.Goals as goal
 

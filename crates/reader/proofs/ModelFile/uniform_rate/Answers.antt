@@ -1,8 +1,6 @@
 -- `reader::ModelFile::uniform_rate` meets its contract. Assumes nothing.
-use mathlib.Core.Path.{◌≡◌, ◌∙◌}
-use native.Mathlib.Omega.{arith}
-use Rattle.std.proofs.Common.{rules}
-use lib.ListN.{length}
+use Rattle.std.specs.Prelude.{◌≡◌, length}
+use Rattle.std.proofs.Common.{◌∙◌, arith, rules}
 use Rattle.definitions.specs.File.{state_count}
 use Rattle.definitions.specs.Sums.{largest}
 use Rattle.definitions.specs.Chain.{model_of}

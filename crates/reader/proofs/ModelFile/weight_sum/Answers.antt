@@ -1,7 +1,6 @@
 -- `reader::ModelFile::weight_sum` meets its contract: after i turns the total is the sum of the first i weights. Assumes nothing.
-use Prim.Native.Nat.{◌+◌}
-use mathlib.Core.Path.{sym, ◌∙◌, ap₂}
-use native.Mathlib.Omega.{arith}
+use Rattle.std.specs.Prelude.{◌+◌}
+use Rattle.std.proofs.Common.{sym, ◌∙◌, ap₂, arith}
 use Rattle.definitions.specs.File.{weight_field}
 use Rattle.laws.specs.SumLaws.{sum_zero, sum_more}
 use Rattle.reader.proofs.ModelFile.weight_sum.Goals as goal

@@ -1,5 +1,4 @@
-use Prim.Native.Nat.{◌*◌, ◌≤◌}
-use mathlib.Core.Path.{◌≡◌}
+use Rattle.std.specs.Prelude.{◌*◌, ◌≤◌, ◌≡◌}
 use Rattle.definitions.specs.Sums.{sum}
 use Rattle.definitions.specs.File.{weight_field}
 use Rattle.reader.proofs.ModelFile.weight_sum.Given as goal
