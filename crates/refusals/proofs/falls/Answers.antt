@@ -1,16 +1,7 @@
 -- `refusals::falls` meets its contract: each time is above the one before it just where none falls. Assumes nothing.
-use Prim.Native.Nat.{ℕ, suc, zero, ◌+◌, ◌-◌, ◌<◌}
-use mathlib.Core.Path.{◌≡◌, sym}
-use mathlib.Core.Bool.{Bool, true, false, not}
-use mathlib.Core.List.{List}
-use native.Mathlib.Omega.{arith}
-use borrow.Author.Tests.{tests, ltb-true, ltb-false}
-use native.Mathlib.Nat.{add-sub_cancel}
-use native.Mathlib.Numerals.{add-one}
-use lib.Dec.{ltb}
-use lib.ListN.{length, get_or}
+use Rattle.std.specs.Prelude.{ℕ, suc, zero, ◌+◌, ◌-◌, ◌<◌, ◌≡◌, Bool, true, false, not, List, ltb, length, get_or}
+use Rattle.std.proofs.Common.{sym, arith, tests, ltb-true, ltb-false, add-sub_cancel, add-one, rules}
 use Rattle.std.specs.List.{IsAllAdjacentAnswer}
-use Rattle.std.proofs.Common.{rules}
 use Rattle.std.proofs.lemmas.List.Sorted.{answers_always}
 use Rattle.definitions.specs.Rules.{falls_up_to}
 use Rattle.laws.specs.RowLaws.{none_compared, rises_to, falls_at}

@@ -1,11 +1,9 @@
 -- `refusals::fitting_length` meets its contract. Assumes nothing.
-use Prim.Native.Nat.{ℕ, ◌+◌, ◌*◌, ◌≤◌}
-use mathlib.Core.Path.{ap₂}
-use native.Mathlib.Omega.{arith}
-use native.Mathlib.Nat.{mul-le-mul_right}
+use Rattle.std.specs.Prelude.{ℕ, ◌+◌, ◌*◌, ◌≤◌}
+use Rattle.std.proofs.Common.{ap₂, arith, mul-le-mul_right}
 use Rattle.laws.specs.ChainLaws.{distributions_max, square_max}
-use Rattle.refusals.proofs.fitting_length.Goals as goal
 use Rattle.refusals.proofs.fitting_length.Goals.{After-distributions}
+use Rattle.refusals.proofs.fitting_length.Goals as goal
 
 -- at most 64 states and 64 weights
 module _ (c : After-distributions) where

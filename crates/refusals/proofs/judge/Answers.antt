@@ -1,8 +1,6 @@
 -- `refusals::judge` meets its contract: rows 1 to 12 and 16, then the room. Assumes nothing.
-use mathlib.Core.Path.{◌≡◌, refl, ◌∙◌, sym}
-use native.Mathlib.Omega.{arith}
-use Rattle.std.specs.Prelude.{Err}
-use Rattle.std.proofs.Common.{rules}
+use Rattle.std.specs.Prelude.{◌≡◌, refl, Err}
+use Rattle.std.proofs.Common.{◌∙◌, sym, arith, rules}
 use Rattle.definitions.specs.Rules.{block_size}
 use Rattle.laws.specs.RowLaws.{same_room}
 use Rattle.laws.specs.Acceptance.{accepted_model, judgement_in_parts}

@@ -1,8 +1,6 @@
 -- `refusals::judge_dimensions` meets its contract: row 4, then row 5. Assumes nothing.
-use mathlib.Core.Path.{◌≡◌, ◌∙◌, sym, ap}
-use mathlib.Core.List.{◌∷◌, []}
-use Rattle.std.specs.Prelude.{Err}
-use Rattle.std.proofs.Common.{rules}
+use Rattle.std.specs.Prelude.{◌≡◌, ◌∷◌, [], Err}
+use Rattle.std.proofs.Common.{◌∙◌, sym, ap, rules}
 use Rattle.definitions.specs.Rules.{outside, state_row, answer_of}
 use Rattle.laws.specs.RuleLaws.{row_stops, row_passes, none_left}
 use Rattle.refusals.proofs.Parts.{first_refuses, second_answers}

@@ -1,17 +1,14 @@
 -- `refusals::judge_file` meets its contract: the rows that all calls share, then the jumps. Assumes nothing.
-use mathlib.Core.Path.{◌≡◌, refl, ◌∙◌, sym}
-use mathlib.Core.List.{List, [], ◌++◌}
-use native.Mathlib.Omega.{arith}
-use Rattle.std.specs.Prelude.{Err, ℕ}
-use Rattle.std.proofs.Common.{rules}
+use Rattle.std.specs.Prelude.{◌≡◌, refl, List, [], ◌++◌, Err, ℕ}
+use Rattle.std.proofs.Common.{◌∙◌, sym, arith, rules}
 use Rattle.definitions.specs.File.{time_field}
 use Rattle.definitions.specs.Chain.{model_of, uniform_rate}
 use Rattle.definitions.specs.Refusal.{row_of}
 use Rattle.definitions.specs.Rules.{refused, first_held, framing, quantities, jumps, judged_by, file_judgement}
 use Rattle.laws.specs.RowLaws.{same_jumps}
 use Rattle.laws.specs.Acceptance.{rateable, file_in_parts}
-use Rattle.refusals.proofs.judge_file.Goals as goal
 use Rattle.refusals.proofs.judge_file.Goals.{After-time}
+use Rattle.refusals.proofs.judge_file.Goals as goal
 
 pub returns-in_err-file-clause-judged : goal.returns-in_err-file-clause-judged
 returns-in_err-file-clause-judged c =

@@ -1,12 +1,6 @@
 -- `refusals::judge_framing` meets its contract: rows 1 to 3, the dimensions, and row 6. Past a row's test the rows after it answer. Assumes nothing.
-use Prim.Native.Nat.{ℕ, ◌-◌, ◌≤◌, ◌<◌}
-use mathlib.Core.Path.{◌≡◌, ◌∙◌, sym}
-use mathlib.Core.List.{List}
-use native.Mathlib.Omega.{arith}
-use lib.ListN.{length, drop}
-use borrow.Author.Tests.{lt-ltb, le-ltb}
-use Rattle.std.specs.Prelude.{Err}
-use Rattle.std.proofs.Common.{rules}
+use Rattle.std.specs.Prelude.{ℕ, ◌-◌, ◌≤◌, ◌<◌, ◌≡◌, List, length, drop, Err}
+use Rattle.std.proofs.Common.{◌∙◌, sym, arith, lt-ltb, le-ltb, rules}
 use Rattle.definitions.specs.declared.Refusal.TheVariants.{TooShort}
 use Rattle.definitions.specs.File.{length_field, state_count, highest_moment}
 use Rattle.definitions.specs.Rules.{accepted, Rows, dimensions, fitting_length, framing, judged_by}
@@ -14,8 +8,8 @@ use Rattle.laws.specs.RuleLaws.{row_stops, row_passes, none_left, differ, agree,
 use Rattle.laws.specs.RowLaws.{in_dimensions}
 use Rattle.laws.specs.Acceptance.{framed_by}
 use Rattle.refusals.proofs.Parts.{first_refuses, second_answers}
-use Rattle.refusals.proofs.judge_framing.Goals as goal
 use Rattle.refusals.proofs.judge_framing.Goals.{Else-length-bytes, Else-length-fitting_length, Else-outside, In_ok-head, In_ok-judge_dimensions, Start}
+use Rattle.refusals.proofs.judge_framing.Goals as goal
 
 abbrev file : Start → List ℕ
 file start = start.args.bytes.now

@@ -1,8 +1,6 @@
 -- `refusals::judge_jumps` meets its contract: row 12. Assumes nothing.
-use Prim.Native.Nat.{◌*◌}
-use mathlib.Core.Path.{◌∙◌, sym}
-use native.Mathlib.Omega.{arith}
-use borrow.Author.Tests.{lt-ltb, le-ltb}
+use Rattle.std.specs.Prelude.{◌*◌}
+use Rattle.std.proofs.Common.{◌∙◌, sym, arith, lt-ltb, le-ltb}
 use Rattle.definitions.specs.Rules.{jumps}
 use Rattle.laws.specs.RuleLaws.{row_stops, row_passes, none_left}
 use Rattle.refusals.proofs.judge_jumps.Goals as goal

@@ -1,7 +1,6 @@
 -- `refusals::judge_model` meets its contract: the framing, then the quantities. Assumes nothing.
-use mathlib.Core.Path.{◌≡◌, ◌∙◌}
-use Rattle.std.specs.Prelude.{Err}
-use Rattle.std.proofs.Common.{rules}
+use Rattle.std.specs.Prelude.{◌≡◌, Err}
+use Rattle.std.proofs.Common.{◌∙◌, rules}
 use Rattle.definitions.specs.Chain.{model_of, uniform_rate}
 use Rattle.definitions.specs.Rules.{framing, quantities}
 use Rattle.refusals.proofs.Parts.{first_refuses, second_answers}

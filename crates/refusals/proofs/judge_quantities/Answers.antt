@@ -1,15 +1,12 @@
 -- `refusals::judge_quantities` meets its contract: rows 7, 8, 16 and 9 to 11. Past a row's test the rows after it answer. Assumes nothing.
-use Prim.Native.Nat.{ℕ}
-use mathlib.Core.Path.{◌≡◌, ◌∙◌, sym, ap}
-use mathlib.Core.List.{List}
-use native.Mathlib.Omega.{arith}
-use lib.ListN.{drop}
+use Rattle.std.specs.Prelude.{ℕ, ◌≡◌, List, drop}
+use Rattle.std.proofs.Common.{◌∙◌, sym, ap, arith}
 use Rattle.definitions.specs.Chain.{model_of, uniform_rate}
 use Rattle.definitions.specs.Rules.{accepted, quantities, first_held}
 use Rattle.laws.specs.RuleLaws.{row_stops, row_passes, none_left}
 use Rattle.laws.specs.RowLaws.{rewards_over, rewards_within, no_reward, some_reward, sums_over, sums_within}
-use Rattle.refusals.proofs.judge_quantities.Goals as goal
 use Rattle.refusals.proofs.judge_quantities.Goals.{Else-misweighted, Else-most-eq0, Else-most-gt-MOST_REWARD, Else-outside, Else-without_time, Start}
+use Rattle.refusals.proofs.judge_quantities.Goals as goal
 
 abbrev file : Start → List ℕ
 file start = start.args.file.now

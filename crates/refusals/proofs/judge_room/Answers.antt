@@ -1,8 +1,6 @@
 -- `refusals::judge_room` meets its contract: row 13. Assumes nothing.
-use Prim.Native.Nat.{◌*◌, ◌≤◌}
-use mathlib.Core.Path.{sym}
-use native.Mathlib.Omega.{arith}
-use native.Mathlib.Nat.{mul-le-mul}
+use Rattle.std.specs.Prelude.{◌*◌, ◌≤◌}
+use Rattle.std.proofs.Common.{sym, arith, mul-le-mul}
 use Rattle.laws.specs.RowLaws.{too_few, enough}
 use Rattle.refusals.proofs.judge_room.Goals as goal
 

@@ -1,15 +1,10 @@
 -- `refusals::judge_series` meets its contract: the rows that all calls share, then those of the list, the jumps and the room. Assumes nothing.
-use Prim.Native.Nat.{ℕ, ◌*◌}
-use mathlib.Core.Path.{◌≡◌, refl, ◌∙◌, sym}
-use mathlib.Core.List.{List, ◌++◌}
-use native.Mathlib.Omega.{arith}
-use lib.ListN.{length}
-use Rattle.std.specs.Prelude.{Err}
-use Rattle.std.proofs.Common.{rules}
+use Rattle.std.specs.Prelude.{ℕ, ◌*◌, ◌≡◌, refl, List, ◌++◌, length, Err}
+use Rattle.std.proofs.Common.{◌∙◌, sym, arith, rules}
 use Rattle.definitions.specs.Rules.{Rows, listing, last_time, jumps, room, block_size, judged_by, series_judgement}
 use Rattle.laws.specs.Acceptance.{rateable, series_in_parts}
-use Rattle.refusals.proofs.judge_series.Goals as goal
 use Rattle.refusals.proofs.judge_series.Goals.{In_ok-file}
+use Rattle.refusals.proofs.judge_series.Goals as goal
 
 -- the rows of the list, the jumps and the room
 abbrev listed : (s times : List ℕ) (E levels cells : ℕ) → Rows

@@ -1,5 +1,5 @@
 -- `refusals::judge_states` meets its contract: row 4. Assumes nothing.
-use mathlib.Core.Path.{◌∙◌, sym}
+use Rattle.std.proofs.Common.{◌∙◌, sym}
 use Rattle.definitions.specs.Rules.{outside}
 use Rattle.laws.specs.RuleLaws.{row_stops, row_passes, none_left}
 use Rattle.refusals.proofs.judge_states.Goals as goal

@@ -1,17 +1,12 @@
 -- `refusals::judge_times` meets its contract: rows 14 and 15, then the jumps and the room. Assumes nothing.
-use Prim.Native.Nat.{ℕ, ◌*◌, ◌≤◌}
-use mathlib.Core.Path.{◌≡◌, ◌∙◌, sym}
-use mathlib.Core.List.{List, ◌++◌}
-use native.Mathlib.Omega.{arith}
-use lib.ListN.{length, drop}
-use Rattle.std.specs.Prelude.{Err}
-use Rattle.std.proofs.Common.{rules}
+use Rattle.std.specs.Prelude.{ℕ, ◌*◌, ◌≤◌, ◌≡◌, List, ◌++◌, length, drop, Err}
+use Rattle.std.proofs.Common.{◌∙◌, sym, arith, rules}
 use Rattle.definitions.specs.Rules.{accepted, Rows, listing, last_time, jumps, room, block_size, judged_by}
 use Rattle.laws.specs.RuleLaws.{row_stops, row_passes}
 use Rattle.laws.specs.RowLaws.{in_range, too_few, enough}
 use Rattle.refusals.proofs.Parts.{first_refuses, second_answers}
-use Rattle.refusals.proofs.judge_times.Goals as goal
 use Rattle.refusals.proofs.judge_times.Goals.{Else-falls, Else-outside, Start}
+use Rattle.refusals.proofs.judge_times.Goals as goal
 
 abbrev times : Start → List ℕ
 times start = start.args.times.now

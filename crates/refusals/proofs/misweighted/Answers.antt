@@ -1,8 +1,6 @@
 -- `search` would prove it with no file; this one makes the refusal of a wrong sum say where it fails.
-use Prim.Native.Nat.{ℕ, ◌<◌}
-use mathlib.Core.Path.{◌≡◌, sym, ◌∙◌, ap}
-use mathlib.Core.Bool.{not}
-use lib.Dec.{eqb}
+use Rattle.std.specs.Prelude.{ℕ, ◌<◌, ◌≡◌, not, eqb}
+use Rattle.std.proofs.Common.{sym, ◌∙◌, ap}
 use Rattle.definitions.specs.File.{distributions}
 use Rattle.definitions.specs.Chain.{model_of}
 use Rattle.laws.specs.RowLaws.{with_start}
