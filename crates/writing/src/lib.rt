@@ -52,9 +52,7 @@ impl Pen<'_> {
         requires { (width ≤ 8) × (self.old.at + width ≤ length self.old.out.now) }
         ensures { Puts (bytes_of width n) width self.old self.new }
     {
-        for p in (0..width).rev() {
-            self.put(byte_at(n, p));
-        }
+        self.put_word(&n.to_be_bytes()[8 - width..]);
     }
 
     // The header of a file in which so many numbers follow.
@@ -69,13 +67,4 @@ impl Pen<'_> {
         self.put_big(header.tolerance as u64, 4);
         self.put_big(header.time as u64, 4);
     }
-}
-
-// The byte of n that counts 256 to the p.
-#[tactic(auto, using(crate::specs::TextLaws::bits_of_bytes))]
-fn byte_at(n: u64, p: usize) -> u8
-    requires { p < 8 }
-    ensures { result ≡ n / 256 ^ p % 256 }
-{
-    ((n >> (8 * p)) % 256) as u8
 }

@@ -1,21 +1,14 @@
--- In each turn one byte more of the number's highest stands there. Assumes nothing.
-use Rattle.std.proofs.Common.{◌≡◌, ◌-◌, ◌+◌, refl, arith}
+-- The part that is copied is the last bytes of n. Assumes nothing.
+use Rattle.std.proofs.Common.{◌≡◌, ◌-◌, take, drop, length, ap, arith}
 use Rattle.definitions.specs.Bytes.{bytes_of}
-use Rattle.writing.specs.Puts.{nothing, then}
-use Rattle.writing.specs.TextLaws.{next_byte}
+use Rattle.writing.specs.Puts.{Puts, wider}
+use Rattle.writing.specs.TextLaws.{last_bytes, length_bytes}
 use Rattle.writing.proofs.Pen.put_big.Goals as goal
 
-pub loop-p-init : goal.loop-p-init
-unfolding bytes_of
-loop-p-init c =
-    let none : c.args.width - c.args.width ≡ 0 = omega arith in
-    rw none (nothing refl)
-
-pub loop-p-preserved : goal.loop-p-preserved
-loop-p-preserved c =
-    let loop = c.loop-p in
+pub returns : goal.returns
+returns c =
     let args = c.args in
-    let above : args.width - (loop.p - 1) ≡ args.width - loop.p + 1 = omega arith in
-    let here : loop.p ≡ loop.p - 1 + 1 = omega arith in
-    let text = next_byte (args.width - loop.p) (loop.p - 1) args.n c.byte_at.result c.byte_at.ensures in
-    rw (above, text, ← here) (then loop.invariant c.put.ensures)
+    let part = take (8 - (8 - args.width)) (drop (8 - args.width) c.to_be_bytes.result) in
+    let whole : part ≡ bytes_of args.width args.n = rw c.to_be_bytes.ensures (last_bytes args.width args.n (omega arith)) in
+    let put : Puts (bytes_of args.width args.n) (length part) args.self.now c.put_word.new.self = rw (← whole) c.put_word.ensures in
+    wider (omega (arith, ap length whole, length_bytes args.width args.n)) put
