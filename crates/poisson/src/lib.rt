@@ -39,6 +39,7 @@ struct Jumps {
     n: u64,
     w: u64,
     ghost weighed: { w ≡ weight x n },
+    ghost limited: { x ≤ 256000000 },
 }
 
 // The level N, which is the least n that passes, and S(N). w(0) to w(N) are written into what is lent;
@@ -99,6 +100,7 @@ fn allowance(sum: u64, tolerance: u64) -> u64
 impl Jumps {
     // m, where the weights start.
     fn most_likely(x: u64) -> Jumps
+        requires { x ≤ 256000000 }
         ensures { (result.x ≡ x) × (result.n ≡ mode x) }
     {
         Jumps {
@@ -124,7 +126,7 @@ impl Jumps {
 
     // n - 1, for n up to m. The remainder of w(n) * n * 1,000,000 by X is dropped.
     fn step_left(self) -> Jumps
-        requires { (1 ≤ self.n) × (self.n ≤ mode self.x) × (self.x ≤ 256000000) }
+        requires { (1 ≤ self.n) × (self.n ≤ mode self.x) }
         ensures { (result.x ≡ self.x) × (result.n ≡ self.n - 1) × Divides (self.w * self.n * MILLION) self.x result.w (self.w * self.n * MILLION % self.x) }
     {
         let before = muldiv::scaled(self.w, self.n * MILLION, self.x);
@@ -138,7 +140,7 @@ impl Jumps {
     // t, the bound on the weights past n, for n not below q. The remainder of (w(n) + n - m) * X by
     // (n + 1) * 1,000,000 - X is dropped. Below q that divisor could be 0.
     fn tail_bound(self) -> u64
-        requires { (self.x ≤ self.n * MILLION) × (self.n < LEVELS) × (self.x ≤ 256000000) }
+        requires { (self.x ≤ self.n * MILLION) × (self.n < LEVELS) }
         ensures { (result ≡ tail_bound self.x self.n) × Divides ((self.w + self.n - mode self.x) * self.x) ((self.n + 1) * MILLION - self.x) (result - 1) ((self.w + self.n - mode self.x) * self.x % ((self.n + 1) * MILLION - self.x)) }
     {
         let m = mode_of(self.x);
@@ -148,7 +150,7 @@ impl Jumps {
 
     // Whether n passes, given S(n): n jumps are at least q, and t is at most what S(n) and the tolerance allow.
     fn passes(self, sum: u64, tolerance: u64) -> bool
-        requires { (sum ≡ weight_sum self.x self.n) × (self.n < LEVELS) × (self.x ≤ 256000000) × (tolerance ≤ 100000000) }
+        requires { (sum ≡ weight_sum self.x self.n) × (self.n < LEVELS) × (tolerance ≤ 100000000) }
         ensures { result ≡ passes? self.x tolerance self.n }
     {
         if self.n * MILLION < self.x {

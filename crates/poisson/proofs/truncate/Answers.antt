@@ -32,7 +32,7 @@ pub passes-requires : goal.passes-requires
 passes-requires c =
     let most = level_max c.args.x c.args.tolerance c.requires.0 c.requires.1 in
     let same = c.loop-at.invariant.same_jumps in
-    (c.loop-at.invariant.summed ∙ ap (λ x. weight_sum x c.loop-at.at.n) (sym same), omega arith, omega arith, omega arith)
+    (c.loop-at.invariant.summed ∙ ap (λ x. weight_sum x c.loop-at.at.n) (sym same), omega arith, omega arith)
 
 -- the test is that of X and the tolerance
 tested : (c : After-passes) → c.passes.result ≡ passes? c.args.x c.args.tolerance c.loop-at.at.n

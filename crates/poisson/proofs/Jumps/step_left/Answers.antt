@@ -24,7 +24,7 @@ scaled-before-requires c =
 pub invariant_of-result : goal.invariant_of-result
 invariant_of-result c =
     let at = c.args.self in
-    record { weighed = ap quotient c.scaled-before.ensures ∙ ap (λ (w : ℕ). w * (at.n * MILLION) / at.x) at.weighed ∙ sym (weight_before at.x at.n c.requires.0 c.requires.1) }
+    record { weighed = ap quotient c.scaled-before.ensures ∙ ap (λ (w : ℕ). w * (at.n * MILLION) / at.x) at.weighed ∙ sym (weight_before at.x at.n c.requires.0 c.requires.1); limited = at.limited }
 
 pub returns : goal.returns
 returns c =

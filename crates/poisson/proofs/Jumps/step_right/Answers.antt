@@ -14,7 +14,7 @@ scaled-next-requires c =
 pub invariant_of-result : goal.invariant_of-result
 invariant_of-result c =
     let at = c.args.self in
-    record { weighed = ap quotient c.scaled-next.ensures ∙ ap (λ (w : ℕ). w * at.x / ((at.n + 1) * MILLION)) at.weighed ∙ sym (weight_right at.x at.n c.requires.0) }
+    record { weighed = ap quotient c.scaled-next.ensures ∙ ap (λ (w : ℕ). w * at.x / ((at.n + 1) * MILLION)) at.weighed ∙ sym (weight_right at.x at.n c.requires.0); limited = at.limited }
 
 pub returns : goal.returns
 returns c =
