@@ -18,12 +18,36 @@ use writing::Pen;
 // The bytes of a buffer that has room for every sheet.
 pub const ROOM: usize = 16384;
 
-// 10 to the p, of those that 64 bits hold.
+// The powers of ten that 64 bits hold. Each decimal is taken from this table.
+const POWERS: [u64; 20] = [
+    1,
+    10,
+    100,
+    1_000,
+    10_000,
+    100_000,
+    1_000_000,
+    10_000_000,
+    100_000_000,
+    1_000_000_000,
+    10_000_000_000,
+    100_000_000_000,
+    1_000_000_000_000,
+    10_000_000_000_000,
+    100_000_000_000_000,
+    1_000_000_000_000_000,
+    10_000_000_000_000_000,
+    100_000_000_000_000_000,
+    1_000_000_000_000_000_000,
+    10_000_000_000_000_000_000,
+];
+
+// 10 to the p.
 fn power(p: usize) -> u64
     requires { p < 20 }
     ensures { result ≡ 10 ^ p }
 {
-    10u64.pow(p as u32)
+    POWERS[p]
 }
 
 // The byte of the decimal digit of x that counts 10 to the p.
