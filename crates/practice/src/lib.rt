@@ -32,7 +32,7 @@ const TOLERANCE: u32 = 10_000;
 fn wrapping_mul(a: u32, b: u32) -> u32
     ensures { result ≡ a * b % 2 ^ 32 }
 {
-    (a as u64 * b as u64 % WRAP) as u32
+    (u64::from(a) * u64::from(b) % WRAP) as u32
 }
 
 // The stream's number after `previous`.
@@ -104,7 +104,7 @@ fn put_file(out: &mut [u8], states: u8, highest: u8, seed: u32) -> usize
 
 // Deals the practice file of M = states, R = highest and a seed number: the count of its bytes, or the first row that
 // holds. Where version 1 is admitted, rows 1 to 12 and 16 stop no file dealt at its own time, and with M × R cells it
-// has figures.
+// has figures. The three stay plain numbers, as C gives them.
 pub fn practice(states: u64, highest: u64, seed: u32, out: &mut [u8]) -> Result<usize, Refusal>
     ensures answer { answer_of result ≡ count_of (practice states highest seed (length out.old)) }
     ensures bytes { out.new ≡ bytes_after (practice states highest seed (length out.old)) out.old }

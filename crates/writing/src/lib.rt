@@ -64,7 +64,7 @@ impl Pen<'_> {
         self.put(header.version);
         self.put(header.states);
         self.put(header.highest);
-        self.put_big(header.tolerance as u64, 4);
-        self.put_big(header.time as u64, 4);
+        self.put_big(u64::from(header.tolerance), 4);
+        self.put_big(u64::from(header.time), 4);
     }
 }
