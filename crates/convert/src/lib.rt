@@ -38,7 +38,7 @@ fn put_header(pen: &mut Pen, bytes: &[u8], later: u64, version: u8)
     pen.put_word(&bytes[reader::STATES_AT..reader::HEADER]);
 }
 
-// The weights of so many states: all of it on the first, none on the others.
+// The weights of so many states: all of it on the first, none on the others. A plain number of states asks for its bound.
 fn put_weights(pen: &mut Pen, states: usize)
     requires { (1 ≤ states) × (states ≤ 64) × (pen.old.at + 4 * states ≤ length pen.old.out.now) }
     ensures { Puts (bytes_of 4 1000000 ++ replicate (4 * (states - 1)) 0) (4 * states) pen.old pen.new }

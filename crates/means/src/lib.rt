@@ -79,6 +79,7 @@ impl Vectors<'_> {
         ensures { cells.new ≡ blocks self.now.sizes.block (length levels.now) (λ k e. get_or cells.old (k * self.now.sizes.block + e) 0 + of_states (self.now.sizes.states * self.now.sizes.highest) e (term_at (row_from weights.now k) self.now.n (get_or levels.now k 0) (in_table self.now.table.now self.now.sizes.highest e))) cells.old }
     {
         let block = self.sizes.block;
+        // By number: of what `chunks_mut` lent, nothing is known afterwards.
         for (k, &level) in levels.iter().enumerate() {
             let row = &weights[k * poisson::LEVELS..];
             self.add_up_to_level(level, row, &mut cells[k * block..(k + 1) * block]);
@@ -151,13 +152,14 @@ fn divide_blocks(totals: &[u64], block: usize, cells: &mut [u64])
     requires { AllDivisible cells.old totals.now block }
     ensures { cells.new ≡ blocks block (length totals.now) (λ k e. last_quotient (get_or cells.old (k * block + e) 0) (get_or totals.now k 0)) cells.old }
 {
+    // By number: of what `chunks_mut` lent, nothing is known afterwards.
     for (k, &total) in totals.iter().enumerate() {
         divide_sums(total, &mut cells[k * block..(k + 1) * block]);
     }
 }
 
 // For each X its level, its S(N) and its row of weights. Returns the largest level: it need not be that of the last X.
-// The levels stand in a list of their own, since the caller lends it.
+// The levels stand in a list of their own, since the caller lends it; by number, since the rows of weights are.
 fn truncate_each(
     xs: &[u64],
     tolerance: u64,
@@ -180,8 +182,8 @@ fn truncate_each(
 }
 
 // The levels of a list of X, and the moments of a chain in arrays for each: level k and block k of the cells are those of X
-// number k, with 0 in the cells of a block past the moments. The rows of weights are lent. Returns the number of row means that
-// it took.
+// number k, with 0 in the cells of a block past the moments. The rows of weights are lent, and levels and cells are the two
+// buffers of the caller, from C too. Returns the number of row means that it took.
 fn solve_with(
     chain: &LentChain,
     xs: &[u64],

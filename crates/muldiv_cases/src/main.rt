@@ -8,6 +8,7 @@ use cases::{DIVISIONS, TERMS};
 use definitions::Division;
 use std::io;
 
+// No Display: Division is of another crate, and this is the one place that prints it.
 fn line(rt: HostRuntime, d: Division) -> io::Result<()> {
     println!(rt; "{} {}", d.quotient, d.remainder)
 }

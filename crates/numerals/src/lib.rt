@@ -21,7 +21,7 @@ fn with_digit(value: u64, byte: u8, most: u64) -> Option<u64>
 }
 
 // The number that the text says: one digit or more and nothing else, leading zeros among them, and a number of
-// at most `most`.
+// at most `most`. Not `parse`: it takes a sign, and only a str.
 pub fn number_of(text: &[u8], most: u64) -> Option<u64>
     ensures { result ≡ numeral most text.now }
 {

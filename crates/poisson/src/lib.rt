@@ -88,7 +88,8 @@ fn mode_of(x: u64) -> u64
     x / MILLION
 }
 
-// The most that t may be, given S(n): S(n) * tolerance by 10^9. The remainder is dropped.
+// The most that t may be, given S(n): S(n) * tolerance by 10^9. The remainder is dropped. The tolerance is a plain number of the
+// caller's, so what multiplies by it asks for its bound.
 fn allowance(sum: u64, tolerance: u64) -> u64
     requires { (sum < 2 ^ 62) × (tolerance ≤ 100000000) }
     ensures { (result ≡ sum * tolerance / BILLION) × Divides (sum * tolerance) BILLION result (sum * tolerance % BILLION) }

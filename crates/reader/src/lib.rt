@@ -151,7 +151,7 @@ pub fn entry_in(row: &[u8], i: usize, j: usize, diagonal: u64) -> u64
     be(row, 4 * (j - 1), 4)
 }
 
-// f at each state, for 64 states: 0 past them.
+// f at each state, for 64 states: 0 past them. An array for the most states, since library code has no heap.
 fn for_states<F: Fn(usize) -> u64>(states: usize, f: F) -> [u64; 64]
     requires few { states ≤ 64 }
     requires pre { (i : ℕ) → i < states → F.pre f i }
@@ -249,7 +249,8 @@ impl<'a> ModelFile<'a> {
         largest(&self.rewards()[..self.head.state_count()])
     }
 
-    // Where row i of the rates starts: after M rewards and i rows of M - 1 rates.
+    // Where row i of the rates starts: after M rewards and i rows of M - 1 rates. A state's number is a plain index, whose
+    // bound each method that takes one asks for.
     fn row_at(&self, i: usize) -> usize
         requires { i < state_count self.now }
         ensures { result ≡ row_at self.now i }
@@ -311,7 +312,7 @@ impl<'a> ModelFile<'a> {
     }
 }
 
-// X = E × T, the expected jump count in millionths, for one time.
+// X = E × T, the expected jump count in millionths, for one time. E is a u64, as Sizes holds it: who takes it alone asks for its bound.
 pub fn jump_millionths(rate: u64, time: u32) -> u64
     requires { rate < 2 ^ 32 }
     ensures { result ≡ rate * time }

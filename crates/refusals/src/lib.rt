@@ -66,7 +66,8 @@ fn fitting_length(head: &Head) -> u64
     4 * states * states + 4 * weights + 11
 }
 
-// Rows 1 to 6: the framing, for a call that admits the versions from low to high.
+// Rows 1 to 6: the framing, for a call that admits the versions from low to high. Two numbers, as in `framing`: a range would
+// only be taken apart again.
 fn judge_framing(bytes: &[u8], low: u64, high: u64) -> Result<ModelFile, Refusal>
     ensures judged { verdict result ≡ judged_by (framing low high bytes.now) }
     ensures same { IfOk result (λ file. file ≡ bytes.now) }
@@ -234,7 +235,7 @@ fn judge_times(
 }
 
 // The first row that holds, for a file of either version and a list of times, lent with so many level cells
-// and answer cells; the file where none does.
+// and answer cells; the file where none does. They are two counts, since a caller, from C too, lends two buffers.
 pub fn judge_series<'a>(
     bytes: &'a [u8],
     times: &[u32],

@@ -101,7 +101,8 @@ fn put_figure(pen: &mut Pen, x: u64)
     put_digits(pen, x, 12);
 }
 
-// How the lines of row i begin: the state's number, or past the last state "start". A space follows.
+// How the lines of row i begin: the state's number, or past the last state "start". A space follows. M is a plain number,
+// as in Solved: its bound is asked here and below.
 fn put_label(pen: &mut Pen, states: usize, i: usize)
     requires { (states ≤ 64) × (pen.old.at + 6 ≤ length pen.old.out.now) }
     ensures { Puts (label states i ++ 32 ∷ []) 6 pen.old pen.new }
@@ -129,6 +130,7 @@ fn put_lines(pen: &mut Pen, solved: &Solved)
     requires { pen.old.at + length solved.now.cells.now * 23 ≤ length pen.old.out.now }
     ensures { Puts (figure_lines solved.now.states solved.now.highest (length solved.now.cells.now) solved.now.cells.now) (length solved.now.cells.now * 23) pen.old pen.new }
 {
+    // By number: `chunks` of R cells would ask for an R above 0.
     for (k, &ticks) in solved.cells.iter().enumerate() {
         let r = (k % solved.highest + 1) as u64;
         put_line(pen, solved.states, k / solved.highest, r, ticks);

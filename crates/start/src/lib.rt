@@ -33,6 +33,7 @@ impl StartWeights<'_> {
     {
         let weights = self.weights;
         let mut total = 0;
+        // By number: every R-th cell is a cell of moment r, and no slice holds these alone.
         for (i, weight) in weights[..self.states].iter().enumerate() {
             total += weight * block[i * self.highest + r];
         }

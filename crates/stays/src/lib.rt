@@ -31,7 +31,8 @@ struct Kept {
 }
 
 // M and the window size, as the start fixed them; a ring, of which the first `window` places are used: the place of the next stay, how many are kept, and
-// the stays; the count of i to j at i * 64 + j - 65, and the hours in i at i - 1.
+// the stays; the count of i to j at i * 64 + j - 65, and the hours in i at i - 1. Arrays, since library code has no heap; the counts
+// in one row, so that a pair of states has one place.
 #[derive(Drop)]
 pub struct Record {
     states: u64,
