@@ -1,7 +1,7 @@
 // The program: a model file on standard input, its printed sheet on standard output.
 #![tactic(auto)]
 
-// A line on standard error. That it cannot be written is not told anywhere.
+// A line on standard error. That it cannot be written is not told anywhere. The program `practice` has its own: it is one line.
 fn say(rt: HostRuntime, line: &str) {
     let _ = eprintln!(rt; "calculator: {line}");
 }

@@ -13,7 +13,7 @@ const LONGEST: usize = 4096;
 
 const NOT_WHOLE: &str = "the file cannot be written whole";
 
-// That the line cannot be written is not told anywhere.
+// That the line cannot be written is not told anywhere. The calculator has its own: it is one line.
 fn say(rt: HostRuntime, line: &str) {
     let _ = eprintln!(rt; "practice: {line}");
 }

@@ -16,7 +16,7 @@ const MOST_TIMES: usize = 16;
 // The bytes of the longest input.
 const LONGEST: usize = 524288;
 
-// A file, what is lent with it, and its list of times: the first `count` of `times`.
+// A file, what is lent with it, and its list of times: the first `count` of `times`, an array, since a Vec could fail too.
 #[derive(Clone, Copy)]
 struct Case<'a> {
     file: &'a [u8],
