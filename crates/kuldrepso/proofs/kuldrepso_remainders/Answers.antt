@@ -1,4 +1,4 @@
--- The plain number of each arm is that of what the call answered.
+-- The plain number of each arm is that of what the call answered, and the three numbers are those that it gives.
 use Rattle.std.proofs.Common.{◌≡◌, ◌∙◌, sym, ap, arith}
 use Rattle.std.specs.Prelude.{Option, Result, Ok}
 use Rattle.definitions.specs.declared.Refusal.{Refusal}
@@ -21,6 +21,21 @@ unfolding plain_answer
 returns-in-Ok-Some-clause-answer c =
     let same = answered (goal.at.returns-in-Ok-Some-clause-answer c).After-remainders _ (c.in-Ok-Some.is ∙ ap Ok c.in-Ok-Some.field-0-is) in
     rw same (remainders_told _ same _ (omega arith))
+
+pub returns-in-Ok-Some-clause-mean : goal.returns-in-Ok-Some-clause-mean
+returns-in-Ok-Some-clause-mean c =
+    let same = answered (goal.at.returns-in-Ok-Some-clause-mean c).After-remainders _ (c.in-Ok-Some.is ∙ ap Ok c.in-Ok-Some.field-0-is) in
+    rw same (omega arith)
+
+pub returns-in-Ok-Some-clause-share : goal.returns-in-Ok-Some-clause-share
+returns-in-Ok-Some-clause-share c =
+    let same = answered (goal.at.returns-in-Ok-Some-clause-share c).After-remainders _ (c.in-Ok-Some.is ∙ ap Ok c.in-Ok-Some.field-0-is) in
+    rw same (omega arith)
+
+pub returns-in-Ok-Some-clause-mix : goal.returns-in-Ok-Some-clause-mix
+returns-in-Ok-Some-clause-mix c =
+    let same = answered (goal.at.returns-in-Ok-Some-clause-mix c).After-remainders _ (c.in-Ok-Some.is ∙ ap Ok c.in-Ok-Some.field-0-is) in
+    rw same (omega arith)
 
 pub returns-in-Ok-None-clause-answer : goal.returns-in-Ok-None-clause-answer
 unfolding plain_answer
