@@ -1,5 +1,5 @@
 -- `practice` meets its contract: rows 4 and 5, then the room, then the file. Assumes nothing.
-use Rattle.std.proofs.Common.{◌≡◌, ◌*◌, ◌≤◌, length, sym, ap, mul-le-mul, arith}
+use Rattle.std.proofs.Common.{◌≡◌, ◌*◌, ◌≤◌, length, refl, sym, ap, mul-le-mul, arith}
 use Rattle.std.proofs.lemmas.Result.{err_from_is_err_and}
 use Rattle.definitions.specs.Rules.{accepted, dimensions, judged_by}
 use Rattle.laws.specs.RowLaws.{in_dimensions}
@@ -28,7 +28,7 @@ pub returns-then-out-states : goal.returns-then-out-states
 returns-then-out-states c =
     let args = c.args in
     let answer = no_room_to_deal args.states args.highest args.seed (length args.out.now) (passed (goal.at.returns-then-out-states c).In_ok-judge_dimensions) (omega arith) in
-    record { answer = rw answer; bytes = rw answer; dealt = dealt_well args.states args.highest args.seed (length args.out.now) }
+    record { answer = rw answer; bytes = rw answer refl; dealt = dealt_well args.states args.highest args.seed (length args.out.now) }
 
 pub returns : goal.returns
 returns c =
