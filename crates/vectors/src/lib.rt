@@ -72,7 +72,7 @@ impl Rows<'_> {
     }
 }
 
-// U(n,0): ONE at the states, and 0 past them.
+// U(n,0): ONE at the states, and 0 past them. Here a number of states stands alone, so its bound is asked for.
 fn ones(states: usize) -> [u64; 64]
     requires { states ≤ 64 }
     ensures { result ≡ padded states (λ i. ONE) }
@@ -89,6 +89,7 @@ fn shares(sizes: Sizes, rewards: &[u64; 64], same: [u64; 64]) -> [u64; 64]
     ensures dropped { SharesDrop sizes rewards.now same result }
 {
     let mut next = [0; 64];
+    // Not `array::from_fn`: that is worked out for all 64, which a small file would pay for.
     for (i, entry) in next[..sizes.states].iter_mut().enumerate() {
         let w = reward_share(rewards[i], same[i], sizes.largest);
         *entry = w.quotient;
