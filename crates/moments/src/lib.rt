@@ -32,6 +32,7 @@ fn write_jumps(rate: u64, times: &[u32], xs: &mut [u64])
     requires { (rate < 2 ^ 32) × (length times.now ≤ length xs.old) }
     ensures { xs.new ≡ over (length times.now) (λ k. rate * get_or times.now k 0) xs.old }
 {
+    // By number, as the definition has it: with a `zip` the search finds no proof.
     for (k, &time) in times.iter().enumerate() {
         xs[k] = reader::jump_millionths(rate, time);
     }
