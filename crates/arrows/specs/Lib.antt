@@ -1,3 +1,2 @@
--- What the contracts of the arrows cite, and the laws of it that callers use.
+-- What the contracts of the arrows cite.
 pub mod Rows
-pub mod RowLaws

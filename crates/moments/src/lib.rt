@@ -17,7 +17,7 @@ ghost use Rattle.moments.specs.Filling.{started, Startable};
 use definitions::{MOST_TIMES, Refusal, Run, Sizes};
 use reader::ModelFile;
 use start::StartWeights;
-use vectors::{LentChain, Rows};
+use vectors::{Arrow, LentChain, Rows};
 
 // At most this many states have their rows in smaller arrays: a small file does not pay for the clearing of
 // large ones.
@@ -71,22 +71,13 @@ fn fill_with<const PLACES: usize>(
 {
     let sums = file.row_sums();
     let sizes = file.sizes(&sums);
-    let mut targets = [0; PLACES];
-    let mut rates = [0; PLACES];
+    let mut arrows = [Arrow { target: 0, rate: 0 }; PLACES];
     let mut counts = [0; 64];
-    arrows::list_rows(
-        file,
-        &sums,
-        sizes.rate,
-        &mut targets,
-        &mut rates,
-        &mut counts,
-    );
+    arrows::list_rows(file, &sums, sizes.rate, &mut arrows, &mut counts);
     let rewards = file.rewards();
     let rows = Rows {
         sizes,
-        targets: &targets,
-        rates: &rates,
+        arrows: &arrows,
         counts: &counts,
     };
     let chain = LentChain {

@@ -13,7 +13,7 @@ ghost use Rattle.remainders.specs.Asked.{Askable};
 
 use definitions::{Refusal, Rests, Sizes};
 use reader::ModelFile;
-use vectors::{LentChain, Rows};
+use vectors::{Arrow, LentChain, Rows};
 
 // The remainders of U(n,r) at state i, counted from 0, of a chain that stands in arrays: V comes from U(n-1,r), W from U(n,r-1)
 // at i, and U from V and W. The row means that this takes are counted for nobody.
@@ -42,22 +42,13 @@ fn rests_of(file: &ModelFile, sums: &[u64; 64], sizes: Sizes, state: u64, n: u64
     requires sums_value { (sums.now ≡ padded (model_of file.now).states (row_sum (model_of file.now))) × (sizes ≡ sizes_of (model_of file.now)) }
     ensures { result ≡ rests_at (chain_of (model_of file.now)) n r (state - 1) }
 {
-    let mut targets = [0; 64 * 64];
-    let mut rates = [0; 64 * 64];
+    let mut arrows = [Arrow { target: 0, rate: 0 }; 64 * 64];
     let mut counts = [0; 64];
-    arrows::list_rows(
-        file,
-        sums,
-        sizes.rate,
-        &mut targets,
-        &mut rates,
-        &mut counts,
-    );
+    arrows::list_rows(file, sums, sizes.rate, &mut arrows, &mut counts);
     let rewards = file.rewards();
     let rows = Rows {
         sizes,
-        targets: &targets,
-        rates: &rates,
+        arrows: &arrows,
         counts: &counts,
     };
     let chain = LentChain {

@@ -1,5 +1,6 @@
 -- What the reward vectors' contracts cite, and the laws of it that callers use.
 pub mod Ready
+pub mod Arrows
 pub mod Lent
 pub mod ReadyLaws
 pub mod Divisions

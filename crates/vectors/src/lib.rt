@@ -1,27 +1,34 @@
 // The reward vectors U(n,r): a number of ticks for each of 64 states.
 //
-// The rows of c are lent, M places for each, row i from i * M on: in a place stand a state and its entry of c. A row uses the
+// The rows of c are lent, M places for each, row i from i * M on: in a place stands an arrow, a state and its entry of c. A row uses the
 // first of its places, counts[i] of them, for the states with a rate above 0 and the diagonal, highest first (crate arrows). A vector goes in
 // by value and the new one comes back: no vector changes while it is read.
 #![tactic(auto)]
 
 ghost use Rattle.std.specs.Prelude.{◌≡◌, List, ℕ, ◌+◌, ◌*◌, ◌-◌, ◌^◌, ◌<◌, ◌≤◌, get_or};
 ghost use Rattle.definitions.specs.Division.{division};
-ghost use Rattle.definitions.specs.Chain.{Listing, listed, arrays, padded};
+ghost use Rattle.definitions.specs.Chain.{Listing, arrays, padded};
 ghost use Rattle.definitions.specs.Vectors.{row_total, reward_share, mixed, next_entry, ONE};
 ghost use Rattle.laws.specs.ArrayLaws.{entry_of};
 ghost use Rattle.vectors.specs.Ready.{RowReady, MixReady, StepReady, Ticks, RewardsReady, Ready};
+ghost use Rattle.vectors.specs.Arrows.{arrow_listing};
 ghost use Rattle.vectors.specs.Table.{blank, table_of};
 ghost use Rattle.vectors.specs.Divisions.{InOrder, StepDrops, SharesDrop};
 
 use definitions::{Division, ONE, Sizes};
 
+// A place of a row: a state, and its entry of c.
+#[derive(Clone, Copy)]
+pub struct Arrow {
+    pub target: u8,
+    pub rate: u32,
+}
+
 // The rows of a chain, as they are lent.
 #[derive(Clone, Copy)]
 pub struct Rows<'a> {
     pub sizes: Sizes,
-    pub targets: &'a [u8],
-    pub rates: &'a [u32],
+    pub arrows: &'a [Arrow],
     pub counts: &'a [usize; 64],
 }
 
@@ -30,7 +37,7 @@ pub struct Rows<'a> {
 pub struct LentChain<'a> {
     pub rows: Rows<'a>,
     pub rewards: &'a [u64; 64],
-    pub ghost ready: { Ready rows.sizes (listed rows.targets.now rows.rates.now rows.counts.now) rewards.now },
+    pub ghost ready: { Ready rows.sizes (arrow_listing rows.arrows.now rows.counts.now) rewards.now },
 }
 
 // W: f(i) * x by F.
@@ -61,12 +68,9 @@ impl Rows<'_> {
     {
         let first = i * self.sizes.states;
         let last = first + self.counts[i];
-        let targets = &self.targets[first..last];
-        let rates = &self.rates[first..last];
         let mut total = 0;
-        // By number: with a `zip` of the two the heaviest file takes a third longer.
-        for (k, &j) in targets.iter().enumerate() {
-            total += u64::from(rates[k]) * v[usize::from(j)];
+        for arrow in &self.arrows[first..last] {
+            total += u64::from(arrow.rate) * v[usize::from(arrow.target)];
         }
         muldiv::divide(total, self.sizes.rate)
     }

@@ -9,7 +9,7 @@ ghost use Rattle.laws.specs.Acceptance.{AcceptedFile};
 use definitions::Sizes;
 use reader::ModelFile;
 use std::io;
-use vectors::{LentChain, Rows};
+use vectors::{Arrow, LentChain, Rows};
 
 // A version 1 file with M states has 4 * M * M + 13 bytes.
 fn main(rt: HostRuntime) -> io::Result<()> {
@@ -37,23 +37,14 @@ fn accepted_vectors(rt: HostRuntime, file: &ModelFile, last: u64) -> io::Result<
 {
     let sums = file.row_sums();
     let sizes = file.sizes(&sums);
-    let mut targets = [0u8; 4096];
-    let mut rates = [0u32; 4096];
+    let mut arrows = [Arrow { target: 0, rate: 0 }; 4096];
     let mut counts = [0usize; 64];
-    arrows::list_rows(
-        file,
-        &sums,
-        sizes.rate,
-        &mut targets,
-        &mut rates,
-        &mut counts,
-    );
+    arrows::list_rows(file, &sums, sizes.rate, &mut arrows, &mut counts);
     let rewards = file.rewards();
     let chain = LentChain {
         rows: Rows {
             sizes,
-            targets: &targets,
-            rates: &rates,
+            arrows: &arrows,
             counts: &counts,
         },
         rewards: &rewards,

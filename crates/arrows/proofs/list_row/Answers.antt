@@ -9,7 +9,7 @@ use Rattle.laws.specs.Acceptance.{Framed}
 use Rattle.laws.specs.Rounding.{place_below}
 use Rattle.laws.specs.ChainLaws.{square_max}
 use Rattle.reader.specs.Framed.{entry_room, entry_in_row}
-use Rattle.arrows.specs.RowLaws.{entry_of_row, added_by, none_listed, left_out, place_left, listed_next, all_listed, added_fits}
+use Rattle.arrows.proofs.RowLaws.{entry_of_row, added_by, none_listed, left_out, place_left, listed_next, all_listed, added_fits}
 use Rattle.arrows.proofs.list_row.Goals as goal
 use Rattle.arrows.proofs.list_row.Goals.{After-row-row, After-is_added, Then-is_added}
 
@@ -27,7 +27,7 @@ module _ (d : After-row-row) where
 pub loop-j-init : goal.loop-j-init
 loop-j-init d =
     let row = (goal.at.loop-j-init d).After-row-row in
-    none_listed (m row) d.args.i _ _ _ _ _ (read row) (omega arith)
+    none_listed (m row) d.args.i _ _ _ _ (read row) (omega arith)
 
 pub entry_in-entry-requires : goal.entry_in-entry-requires
 entry_in-entry-requires d other =
@@ -62,7 +62,7 @@ module _ (t : Then-is_added) where
 
   place : t.loop-j.k < M
   place =
-      omega (arith, place_left (m (start d)) t.args.i _ _ _ t.loop-j.j t.loop-j.k _ _ t.loop-j.invariant (omega arith) (sym (told d) ∙ t.if-is_added.true), added_fits (m (start d)) t.args.i)
+      omega (arith, place_left (m (start d)) t.args.i _ _ t.loop-j.j t.loop-j.k _ t.loop-j.invariant (omega arith) (sym (told d) ∙ t.if-is_added.true), added_fits (m (start d)) t.args.i)
 
   place_max : t.args.i * t.state_count-states.result + t.loop-j.k < M * M
   place_max = rw (read (start d)) (place_below t.args.i t.loop-j.k M M t.requires.state place)
@@ -70,20 +70,14 @@ module _ (t : Then-is_added) where
   few : M * M ≤ 64 * 64
   few = square_max M 64 (framed (start d)).states_max
 
-pub overflow_add-targets : goal.overflow_add-targets
-overflow_add-targets c = let t = (goal.at.overflow_add-targets c).Then-is_added in omega (arith, place_max t, few t)
+pub overflow_add-first : goal.overflow_add-first
+overflow_add-first c = let t = (goal.at.overflow_add-first c).Then-is_added in omega (arith, place_max t, few t)
 
-pub bounds-targets-first : goal.bounds-targets-first
-bounds-targets-first c = omega (arith, place_max (goal.at.bounds-targets-first c).Then-is_added)
+pub offset_bounds-arrows-first : goal.offset_bounds-arrows-first
+offset_bounds-arrows-first c = let t = (goal.at.offset_bounds-arrows-first c).Then-is_added in omega (arith, place_max t, few t)
 
-pub overflow_add-rates : goal.overflow_add-rates
-overflow_add-rates c = let t = (goal.at.overflow_add-rates c).Then-is_added in omega (arith, place_max t, few t)
-
-pub offset_bounds-rates-first : goal.offset_bounds-rates-first
-offset_bounds-rates-first c = let t = (goal.at.offset_bounds-rates-first c).Then-is_added in omega (arith, place_max t, few t)
-
-pub bounds-rates-first : goal.bounds-rates-first
-bounds-rates-first c = omega (arith, place_max (goal.at.bounds-rates-first c).Then-is_added)
+pub bounds-arrows-first : goal.bounds-arrows-first
+bounds-arrows-first c = omega (arith, place_max (goal.at.bounds-arrows-first c).Then-is_added)
 
 pub overflow_add-k : goal.overflow_add-k
 overflow_add-k c = let t = (goal.at.overflow_add-k c).Then-is_added in omega (arith, place t, (framed (start (d t))).states_max)
@@ -91,16 +85,16 @@ overflow_add-k c = let t = (goal.at.overflow_add-k c).Then-is_added in omega (ar
 pub loop-j-preserved-then-is_added : goal.loop-j-preserved-then-is_added
 loop-j-preserved-then-is_added t =
     let turn = (goal.at.loop-j-preserved-then-is_added t).After-is_added in
-    listed_next (m (start turn)) t.args.i _ _ _ t.loop-j.j t.loop-j.k _ _ t.loop-j.invariant (omega arith) (sym (told turn) ∙ t.if-is_added.true) _ (entry turn)
+    listed_next (m (start turn)) t.args.i _ _ t.loop-j.j t.loop-j.k _ t.loop-j.invariant (omega arith) (sym (told turn) ∙ t.if-is_added.true) _ (omega arith) (omega (arith, entry turn))
 
 pub loop-j-preserved : goal.loop-j-preserved
 loop-j-preserved e =
     let turn = (goal.at.loop-j-preserved e).After-is_added in
-    left_out (m (start turn)) e.args.i _ _ _ e.loop-j.j e.loop-j.k _ _ e.loop-j.invariant (omega arith) (sym (told turn) ∙ e.if-is_added.false)
+    left_out (m (start turn)) e.args.i _ _ e.loop-j.j e.loop-j.k _ e.loop-j.invariant (omega arith) (sym (told turn) ∙ e.if-is_added.false)
 
 pub returns : goal.returns
 returns d =
     let row = (goal.at.returns d).After-row-row in
     let none : d.loop-j.j ≡ 0 = omega arith in
-    let whole = all_listed (m row) d.args.i _ _ _ d.loop-j.k _ _ (rw none at d.loop-j.invariant) (d.args.i * (m row).states) (ap (λ (M : ℕ). d.args.i * M) (read row)) in
+    let whole = all_listed (m row) d.args.i _ _ d.loop-j.k _ (rw none at d.loop-j.invariant) (d.args.i * (m row).states) (ap (λ (M : ℕ). d.args.i * M) (read row)) in
     record { count = whole.0; targets = whole.1; rates = whole.2 }

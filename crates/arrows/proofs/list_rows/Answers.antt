@@ -8,7 +8,7 @@ use Rattle.laws.specs.Acceptance.{Framed}
 use Rattle.laws.specs.ListLaws.{over_none, over_store}
 use Rattle.laws.specs.ChainLaws.{get_d_padded, row_sum_le_rate}
 use Rattle.laws.specs.StoredLaws.{none_stored, stored_more}
-use Rattle.arrows.specs.RowLaws.{rows_listed, rows_shown}
+use Rattle.arrows.proofs.RowLaws.{rows_listed, rows_shown}
 use Rattle.arrows.proofs.list_rows.Invariants.{entries, number}
 use Rattle.arrows.proofs.list_rows.Goals as goal
 use Rattle.arrows.proofs.list_rows.Goals.{After-state_count-i-end, In-loop-i}
@@ -57,8 +57,7 @@ list_row-requires c =
       state = state turn;
       stays = omega (arith, sum_at turn, c.requires.rate_value.0);
       stays_max = omega (arith, c.requires.rate_value.1);
-      target_room = omega (arith, c.requires.file_in_bounds.0);
-      rate_room = omega (arith, c.requires.file_in_bounds.1);
+      room = omega (arith, c.requires.file_in_bounds.0);
     }
 
 pub loop-i-preserved : goal.loop-i-preserved
@@ -68,7 +67,7 @@ loop-i-preserved c =
     record {
       targets = c.list_row.ensures.targets ∙ ap (λ (l : List ℕ). sets l (i turn * m.states) (added_states m (i turn))) c.loop-i.invariant.targets ∙ stored_more (added_states m) m.states _ (i turn);
       rates = c.list_row.ensures.rates ∙ ap (λ (l : List ℕ). sets l (i turn * m.states) (entries m (i turn))) c.loop-i.invariant.rates ∙ stored_more (entries m) m.states _ (i turn);
-      counts = over_store (i turn) (number m) _ c.loop-i.counts _ (omega (arith, state turn, c.requires.file_in_bounds.2)) c.loop-i.invariant.counts c.list_row.ensures.count;
+      counts = over_store (i turn) (number m) _ c.loop-i.counts _ (omega (arith, state turn, c.requires.file_in_bounds.1)) c.loop-i.invariant.counts c.list_row.ensures.count;
     }
 
 pub returns : goal.returns
@@ -79,9 +78,11 @@ returns c =
     let targets = rw all at c.loop-i.invariant.targets in
     let rates = rw all at c.loop-i.invariant.rates in
     let counts = rw all at c.loop-i.invariant.counts in
+    let held = rows_listed m c.args.arrows.now _ c.args.counts.now _ c.requires.file_in_bounds.0 targets rates counts in
     record {
       targets = targets;
       rates = rates;
       counts = counts;
-      shown = rows_shown m _ (rows_listed m c.args.targets.now c.args.rates.now c.args.counts.now _ _ _ c.requires.file_in_bounds.0 c.requires.file_in_bounds.1 targets rates counts);
+      held = held;
+      shown = rows_shown m _ held;
     }

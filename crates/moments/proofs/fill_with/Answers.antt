@@ -1,13 +1,12 @@
 -- What the file states is read, its rows into the places that are lent, and the solution of what was read is the file's.
-use Rattle.std.proofs.Common.{◌≡◌, ◌∙◌, ap, List, ℕ, ◌*◌, ◌≤◌, ◌<◌, ◌^◌, get_or, length, take, length-take-le, get_or-take, replicate, arith}
-use Rattle.std.proofs.lemmas.List.{length-replicate}
+use Rattle.std.proofs.Common.{◌≡◌, ◌∙◌, ap, List, ℕ, ◌*◌, ◌<◌, ◌^◌, get_or, length, take, length-take-le, get_or-take, arith}
 use Rattle.definitions.specs.declared.Sizes.{Sizes}
 use Rattle.definitions.specs.File.{tolerance_field}
-use Rattle.definitions.specs.Chain.{Listing, model_of, uniform_rate, listed}
+use Rattle.definitions.specs.Chain.{Listing, model_of, uniform_rate}
 use Rattle.definitions.specs.Rules.{block_size}
 use Rattle.laws.specs.ChainLaws.{rate_at_lem}
 use Rattle.laws.specs.ListLaws.{get_d_over}
-use Rattle.arrows.specs.RowLaws.{rows_listed}
+use Rattle.vectors.specs.Arrows.{arrow_listing}
 use Rattle.moments.specs.Filling.{ReadAs, started}
 use Rattle.moments.specs.FillingLaws.{ready, solvable, levels_are, counted, startable, blocks_are}
 use Rattle.moments.proofs.fill_with.Given.{Over}
@@ -40,17 +39,14 @@ module _ (g : Over) (c : After-tolerance-tolerance g) where
   times = c.args.times.now
 
   abbrev rows : Listing
-  rows = listed c.list_rows.new.targets c.list_rows.new.rates c.list_rows.new.counts
+  rows = arrow_listing c.list_rows.new.arrows c.list_rows.new.counts
 
   read : ReadAs (model_of s) times c.sizes-sizes.result rows c.rewards-rewards.result (take (length times) c.write_jumps.new.xs) c.tolerance-tolerance.result
   read =
-      let after = c.list_rows.ensures in
-      let places : List ℕ = replicate g.row.PLACES 0 in
-      let room : (model_of s).states * (model_of s).states ≤ length places = omega (arith, c.requires.places.0, length-replicate {A = ℕ} g.row.PLACES 0) in
       record {
         held = record {
           sizes = c.sizes-sizes.ensures;
-          rows = rows_listed (model_of s) places places (replicate 64 0) _ _ _ room room after.targets after.rates after.counts;
+          rows = c.list_rows.ensures.held;
           rewards = c.rewards-rewards.ensures;
         };
         count = length-take-le (length times) _ (omega (arith, c.requires.accepted_series.count_max, c.write_jumps.auto.xs));

@@ -4,11 +4,11 @@ use mathlib.Core.Path.{◌≡◌, ◌∙◌, ap}
 use native.Mathlib.Omega.{arith}
 use Rattle.definitions.specs.declared.Sizes.{Sizes}
 use Rattle.definitions.specs.File.{state_count}
-use Rattle.definitions.specs.Chain.{Model, Listing, model_of, chain_of, listed}
+use Rattle.definitions.specs.Chain.{Model, Listing, model_of, chain_of}
 use Rattle.laws.specs.ChainLaws.{square_max}
 use Rattle.laws.proofs.MomentLaws.{level_range}
 use Rattle.laws.specs.RemainderLaws.{rests_same}
-use Rattle.arrows.specs.RowLaws.{rows_listed}
+use Rattle.vectors.specs.Arrows.{arrow_listing}
 use Rattle.vectors.specs.ModelLaws.{Held, held_ready, held_same}
 use Rattle.remainders.proofs.rests_of.Goals as goal
 use Rattle.remainders.proofs.rests_of.Goals.{After-rewards-rewards, Start}
@@ -23,7 +23,7 @@ list_rows-requires c =
     let rate = ap (λ (z : Sizes). z.rate) c.requires.sums_value.1 in
     let limits = c.requires.accepted_model.0.limits in
     record {
-      file_in_bounds = (room, room, limits.states_max);
+      file_in_bounds = (room, limits.states_max);
       sums_value = c.requires.sums_value.0;
       rate_value = (rate, omega (arith, rate, limits.rate_max));
     }
@@ -36,15 +36,13 @@ module _ (c : After-rewards-rewards) where
   abbrev rows : Listing
   rows =
       let last = c.list_rows.new in
-      listed last.targets last.rates last.counts
+      arrow_listing last.arrows last.counts
 
   read : Held m c.args.sizes rows c.rewards-rewards.result
   read =
-      let room = enough (goal.at.After-rewards-rewards c).Start in
-      let after = c.list_rows.ensures in
       record {
         sizes = c.requires.sums_value.1;
-        rows = rows_listed m _ _ _ _ _ _ room room after.targets after.rates after.counts;
+        rows = c.list_rows.ensures.held;
         rewards = c.rewards-rewards.ensures;
       }
 

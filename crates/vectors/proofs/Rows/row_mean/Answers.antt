@@ -7,40 +7,44 @@ use Rattle.laws.specs.Rounding.{quotient, remainder, same_parts}
 use Rattle.vectors.specs.ReadyLaws.{row_total_lem}
 use Rattle.vectors.specs.DivisionLaws.{row_added}
 use Rattle.vectors.specs.Lent.{listing_of}
-use Rattle.vectors.proofs.Places.{count, product, length_targets, product_is, total_fits}
+use Rattle.vectors.proofs.Places.{count, product, length_part, product_is, target_below, total_fits}
 use Rattle.vectors.proofs.Rows.row_mean.Goals as goal
-use Rattle.vectors.proofs.Rows.row_mean.Goals.{In-loop-k, After-from-in-loop-k, After-divide}
+use Rattle.vectors.proofs.Rows.row_mean.Goals.{In-loop-arrow, After-from-in-loop-arrow, After-divide}
 
--- k is one of the row's places
-within : (c : In-loop-k) → c.loop-k.k < count c.requires
-within c = omega (arith, length_targets c.requires)
+-- the arrow is one of the row's places
+within : (c : In-loop-arrow) → c.loop-arrow.arrow-index < count c.args.self.now c.requires
+within c = omega (arith, length_part c.args.self.now c.requires)
 
-pub loop-k-init : goal.loop-k-init
-loop-k-init c = sym (sum_zero (product c.requires))
+pub loop-arrow-init : goal.loop-arrow-init
+loop-arrow-init c = sym (sum_zero (product c.args.self.now c.requires))
 
 -- the product that is added, which still fits
-module _ (c : After-from-in-loop-k) where
-  added : c.from.result * get_or c.args.v.now c.from-in-loop-k.result 0 ≡ product c.requires c.loop-k.k
-  added = product_is c.requires (within (goal.at.After-from-in-loop-k c).In-loop-k) c.from-in-loop-k.ensures c.from.ensures
+module _ (c : After-from-in-loop-arrow) where
+  added : c.from.result * get_or c.args.v.now c.from-in-loop-arrow.result 0 ≡ product c.args.self.now c.requires c.loop-arrow.arrow-index
+  added = product_is c.args.self.now c.requires _ (within (goal.at.After-from-in-loop-arrow c).In-loop-arrow) c.from-in-loop-arrow.ensures c.from.ensures
 
-  fits : c.loop-k.total + c.from.result * get_or c.args.v.now c.from-in-loop-k.result 0 < 2 ^ 64
-  fits = total_fits c.requires (within (goal.at.After-from-in-loop-k c).In-loop-k) c.from-in-loop-k.ensures c.from.ensures c.loop-k.invariant
+  fits : c.loop-arrow.total + c.from.result * get_or c.args.v.now c.from-in-loop-arrow.result 0 < 2 ^ 64
+  fits = total_fits c.args.self.now c.requires _ (within (goal.at.After-from-in-loop-arrow c).In-loop-arrow) c.from-in-loop-arrow.ensures c.from.ensures c.loop-arrow.invariant
+
+pub bounds-v-from : goal.bounds-v-from
+bounds-v-from c = target_below c.args.self.now c.requires _ (within (goal.at.bounds-v-from c).In-loop-arrow) c.from-in-loop-arrow.ensures
 
 pub overflow_mul-total : goal.overflow_mul-total
-overflow_mul-total c = omega (arith, fits (goal.at.overflow_mul-total c).After-from-in-loop-k)
+overflow_mul-total c = omega (arith, fits (goal.at.overflow_mul-total c).After-from-in-loop-arrow)
 
 pub overflow_add-total : goal.overflow_add-total
-overflow_add-total c = omega (arith, fits (goal.at.overflow_add-total c).After-from-in-loop-k)
+overflow_add-total c = omega (arith, fits (goal.at.overflow_add-total c).After-from-in-loop-arrow)
 
-pub loop-k-preserved : goal.loop-k-preserved
-loop-k-preserved c = omega (arith, c.loop-k.invariant, added (goal.at.loop-k-preserved c).After-from-in-loop-k, sum_more c.loop-k.k (product c.requires))
+pub loop-arrow-preserved : goal.loop-arrow-preserved
+loop-arrow-preserved c =
+    omega (arith, c.loop-arrow.invariant, added (goal.at.loop-arrow-preserved c).After-from-in-loop-arrow, sum_more c.loop-arrow.arrow-index (product c.args.self.now c.requires))
 
 -- the total, divided by E, is any sum that the row's places make, divided by E
-divided : (c : After-divide) (total : ℕ) → sum (count c.requires) (product c.requires) ≡ total → c.divide.result ≡ division total c.args.self.now.sizes.rate
+divided : (c : After-divide) (total : ℕ) → sum (count c.args.self.now c.requires) (product c.args.self.now c.requires) ≡ total → c.divide.result ≡ division total c.args.self.now.sizes.rate
 divided c total e =
     let rate = c.args.self.now.sizes.rate in
-    let all : c.loop-k.k ≡ count c.requires = omega (arith, length_targets c.requires) in
-    let whole = rw all at c.loop-k.invariant ∙ e in
+    let all : c.loop-arrow.arrow-index ≡ count c.args.self.now c.requires = omega (arith, length_part c.args.self.now c.requires) in
+    let whole = rw all at c.loop-arrow.invariant ∙ e in
     same_parts _ _ (omega (arith, ap quotient c.divide.ensures, ap (λ (k : ℕ). k / rate) whole))
     (omega (arith, ap remainder c.divide.ensures, ap (λ (k : ℕ). k % rate) whole))
 

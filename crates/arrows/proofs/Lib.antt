@@ -1,0 +1,2 @@
+-- What the proofs of the arrows rest on.
+mod RowLaws
