@@ -36,59 +36,97 @@ fn rests_at(chain: &LentChain, n: u64, r: usize, i: usize) -> Rests
     }
 }
 
-// The remainders of an accepted file, for state, n and r within their limits. What the file states is read into arrays.
-fn rests_of(file: &ModelFile, sums: &[u64; 64], sizes: Sizes, state: u64, n: u64, r: u64) -> Rests
-    requires accepted_model { AcceptedModel 1 2 file.now × Inside (model_of file.now) state n r }
-    requires sums_value { (sums.now ≡ padded (model_of file.now).states (row_sum (model_of file.now))) × (sizes ≡ sizes_of (model_of file.now)) }
-    ensures { result ≡ rests_at (chain_of (model_of file.now)) n r (state - 1) }
-{
-    let mut arrows = [Arrow { target: 0, rate: 0 }; 64 * 64];
-    let mut counts = [0; 64];
-    arrows::list_rows(file, sums, sizes.rate, &mut arrows, &mut counts);
-    let rewards = file.rewards();
-    let rows = Rows {
-        sizes,
-        arrows: &arrows,
-        counts: &counts,
-    };
-    let chain = LentChain {
-        rows,
-        rewards: &rewards,
-    };
-    rests_at(&chain, n, r as usize, (state - 1) as usize)
+// What is asked for: the remainders of U(n,r) at a state, counted from 1.
+#[derive(Clone, Copy)]
+struct Question {
+    state: u64,
+    n: u64,
+    r: u64,
 }
 
-// N, the level of an accepted file.
-fn level_of(file: &ModelFile, rate: u64) -> u64
-    requires { AcceptedModel 1 2 file.now × (rate ≡ uniform_rate (model_of file.now)) }
-    ensures { result ≡ model_level (model_of file.now) }
-{
-    let x = reader::jump_millionths(rate, file.head.time());
-    let mut weights = [0; poisson::LEVELS];
-    poisson::truncate(x, file.head.tolerance(), &mut weights).level
-}
-
-// Whether the state is outside 1 to M, n outside 1 to N or r outside 1 to R.
-fn any_outside(sizes: Sizes, level: u64, state: u64, n: u64, r: u64) -> bool
-    ensures { result ≡ (outside 1 sizes.states state || outside 1 level n || outside 1 sizes.highest r) }
-{
-    refusals::outside(1, sizes.states as u64, state)
-        || refusals::outside(1, level, n)
-        || refusals::outside(1, sizes.highest as u64, r)
-}
-
-// The remainders of an accepted file, or none.
-fn of_accepted(file: &ModelFile, state: u64, n: u64, r: u64) -> Option<Rests>
-    requires { AcceptedModel 1 2 file.now }
-    ensures { result ≡ rests_of (model_of file.now) state n r }
-{
-    let sums = file.row_sums();
-    let sizes = file.sizes(&sums);
-    let level = level_of(file, sizes.rate);
-    if any_outside(sizes, level, state, n, r) {
-        return None;
+impl Question {
+    // Whether the state is outside 1 to M, n outside 1 to N or r outside 1 to R.
+    fn is_outside(self, sizes: Sizes, level: u64) -> bool
+        ensures { result ≡ (outside 1 sizes.states self.state || outside 1 level self.n || outside 1 sizes.highest self.r) }
+    {
+        refusals::outside(1, sizes.states as u64, self.state)
+            || refusals::outside(1, level, self.n)
+            || refusals::outside(1, sizes.highest as u64, self.r)
     }
-    Some(rests_of(file, &sums, sizes, state, n, r))
+}
+
+// An accepted file, with the sums of its rows and its sizes.
+#[derive(Drop)]
+struct Accepted<'a> {
+    file: ModelFile<'a>,
+    sums: [u64; 64],
+    sizes: Sizes,
+    ghost accepted: { AcceptedModel 1 2 file },
+    ghost sums_value: { sums ≡ padded (model_of file).states (row_sum (model_of file)) },
+    ghost sizes_value: { sizes ≡ sizes_of (model_of file) },
+}
+
+impl<'a> Accepted<'a> {
+    fn new(file: ModelFile<'a>) -> Accepted<'a>
+        requires { AcceptedModel 1 2 file }
+        ensures { result.file ≡ file.entry }
+    {
+        let sums = file.row_sums();
+        let sizes = file.sizes(&sums);
+        Accepted { file, sums, sizes }
+    }
+
+    // N, its level.
+    fn level(&self) -> u64
+        ensures { result ≡ model_level (model_of self.now.file) }
+    {
+        let file = &self.file;
+        let x = reader::jump_millionths(self.sizes.rate, file.head.time());
+        let mut weights = [0; poisson::LEVELS];
+        poisson::truncate(x, file.head.tolerance(), &mut weights).level
+    }
+
+    // The remainders of a question within its limits. What the file states is read into arrays.
+    fn rests(&self, asked: Question) -> Rests
+        requires { Inside (model_of self.now.file) asked.state asked.n asked.r }
+        ensures { result ≡ rests_at (chain_of (model_of self.now.file)) asked.n asked.r (asked.state - 1) }
+    {
+        let mut arrows = [Arrow { target: 0, rate: 0 }; 64 * 64];
+        let mut counts = [0; 64];
+        arrows::list_rows(
+            &self.file,
+            &self.sums,
+            self.sizes.rate,
+            &mut arrows,
+            &mut counts,
+        );
+        let rewards = self.file.rewards();
+        let rows = Rows {
+            sizes: self.sizes,
+            arrows: &arrows,
+            counts: &counts,
+        };
+        let chain = LentChain {
+            rows,
+            rewards: &rewards,
+        };
+        rests_at(
+            &chain,
+            asked.n,
+            asked.r as usize,
+            (asked.state - 1) as usize,
+        )
+    }
+
+    // The remainders of a question, or none.
+    fn answer(&self, asked: Question) -> Option<Rests>
+        ensures { result ≡ rests_of (model_of self.now.file) asked.state asked.n asked.r }
+    {
+        if asked.is_outside(self.sizes, self.level()) {
+            return None;
+        }
+        Some(self.rests(asked))
+    }
 }
 
 // The call: the first of rows 1 to 12 and 16 that holds, before all else; none where the state, counted from 1, is outside 1 to M,
@@ -99,5 +137,5 @@ pub fn remainders(bytes: &[u8], state: u64, n: u64, r: u64) -> Result<Option<Res
     ensures worked { WorkedOut (answer_of result) bytes.now state n r }
 {
     let file = refusals::judge_file(bytes, 1, 2)?;
-    Ok(of_accepted(&file, state, n, r))
+    Ok(Accepted::new(file).answer(Question { state, n, r }))
 }
