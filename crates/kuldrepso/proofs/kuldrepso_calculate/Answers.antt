@@ -1,16 +1,14 @@
 -- Each arm returns the plain number of the outcome, and leaves the count that it says; the rest is as the call has it.
-use mathlib.Core.Path.{◌≡◌, ◌∙◌, sym, ap}
-use native.Mathlib.Omega.{arith}
-use lib.ListN.{length}
-use Rattle.std.specs.Prelude.{Result}
+use Rattle.std.specs.Prelude.{◌≡◌, length, Result}
+use Rattle.std.proofs.Common.{◌∙◌, sym, ap, arith}
 use Rattle.definitions.specs.declared.Refusal.{Refusal}
 use Rattle.definitions.specs.declared.Run.{Run}
 use Rattle.definitions.specs.Rules.{answer_of}
 use Rattle.definitions.specs.Moment.{outcome}
 use Rattle.kuldrepso.specs.Plain.{plain_answer}
 use Rattle.kuldrepso.proofs.PlainLaws.{outcome_told, bound_meant}
-use Rattle.kuldrepso.proofs.kuldrepso_calculate.Goals as goal
 use Rattle.kuldrepso.proofs.kuldrepso_calculate.Goals.{After-calculate}
+use Rattle.kuldrepso.proofs.kuldrepso_calculate.Goals as goal
 
 -- the outcome, as the case of the enum that an arm has
 answered : (c : After-calculate) (o : Result Run Refusal) → c.calculate.result ≡ o →

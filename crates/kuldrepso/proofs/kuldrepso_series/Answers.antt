@@ -1,15 +1,13 @@
 -- Each arm returns the plain number of the answer, and leaves the count that it says; the rest is as the call has it.
-use mathlib.Core.Path.{◌≡◌, ◌∙◌, sym, ap}
-use native.Mathlib.Omega.{arith}
-use lib.ListN.{length}
-use Rattle.std.specs.Prelude.{ℕ, Result}
+use Rattle.std.specs.Prelude.{◌≡◌, length, ℕ, Result}
+use Rattle.std.proofs.Common.{◌∙◌, sym, ap, arith}
 use Rattle.definitions.specs.declared.Refusal.{Refusal}
 use Rattle.definitions.specs.Rules.{answer_of}
 use Rattle.definitions.specs.Series.{series_outcome}
 use Rattle.kuldrepso.specs.Plain.{plain_answer}
 use Rattle.kuldrepso.specs.PlainLaws.{series_told}
-use Rattle.kuldrepso.proofs.kuldrepso_series.Goals as goal
 use Rattle.kuldrepso.proofs.kuldrepso_series.Goals.{After-series}
+use Rattle.kuldrepso.proofs.kuldrepso_series.Goals as goal
 
 -- the outcome, as the case of the enum that an arm has
 answered : (c : After-series) (o : Result ℕ Refusal) → c.series.result ≡ o →

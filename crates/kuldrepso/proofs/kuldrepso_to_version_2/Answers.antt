@@ -1,7 +1,6 @@
 -- The plain number is that of the answer; the bytes, and what is promised of the moved file, are those of the call.
-use mathlib.Core.Path.{ap}
-use native.Mathlib.Omega.{arith}
-use lib.ListN.{length}
+use Rattle.std.specs.Prelude.{length}
+use Rattle.std.proofs.Common.{ap, arith}
 use Rattle.definitions.specs.Convert.{to_version_2}
 use Rattle.kuldrepso.specs.Plain.{plain_answer}
 use Rattle.kuldrepso.proofs.PlainLaws.{moved_told}

@@ -1,8 +1,6 @@
 -- Each arm returns the plain number of the answer.
-use Prim.Native.Nat.{ℕ}
-use mathlib.Core.Path.{ap}
-use native.Mathlib.Omega.{arith}
-use Rattle.std.specs.Prelude.{Result}
+use Rattle.std.specs.Prelude.{ℕ, Result}
+use Rattle.std.proofs.Common.{ap, arith}
 use Rattle.definitions.specs.declared.Refusal.{Refusal}
 use Rattle.definitions.specs.Rules.{answer_of}
 use Rattle.kuldrepso.specs.Plain.{plain_answer}
