@@ -63,7 +63,7 @@ pub fn truncate(x: u64, tolerance: u64, weights: &mut [u64]) -> Truncation
     }
 }
 
-// Writes w(0) to w(m), from m down to 0, and returns S(m).
+// Writes w(0) to w(m), from m down to 0, and returns S(m). The caller's x is a plain number, and asks for its bound.
 fn leftward(x: u64, weights: &mut [u64]) -> u64
     requires { (x ≤ 256000000) × (mode x < length weights.old) }
     ensures { (result ≡ weight_sum x (mode x)) × (weights.new ≡ over (mode x + 1) (weight x) weights.old) }

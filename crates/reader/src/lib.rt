@@ -187,7 +187,8 @@ impl<'a> ModelFile<'a> {
         self.head.bytes
     }
 
-    // The cells of one block: one for each r of each state, and one for each r of the starting distribution.
+    // The cells of one block: one for each r of each state, and one for each r of the starting distribution. A framed file may
+    // name any R: who multiplies by it asks for its bound.
     pub fn block_size(&self) -> usize
         requires { highest_moment self.now ≤ 8 }
         ensures value { result ≡ block_size self.now }
@@ -288,7 +289,7 @@ impl<'a> ModelFile<'a> {
         for_states(self.head.state_count(), |i| self.row_sum(i))
     }
 
-    // E, the uniformization rate: the largest row sum, or 1 where all row sums are 0.
+    // E, the uniformization rate: the largest row sum, or 1 where all row sums are 0. The sums are lent, so that no row is summed twice.
     pub fn uniform_rate(&self, sums: &[u64; 64]) -> u64
         requires { sums.now ≡ padded (state_count self.now) (row_sum (model_of self.now)) }
         ensures { result ≡ uniform_rate (model_of self.now) }

@@ -102,7 +102,7 @@ fn shares(sizes: Sizes, rewards: &[u64; 64], same: [u64; 64]) -> [u64; 64]
 }
 
 // The vectors of n = 0, in a table of zeros: row r becomes U(0,r) for r = 0 to R, the highest moment. It reads
-// no chain.
+// no chain. R ≤ 8 is asked for where a table is filled: a single step reads no R.
 pub fn first_table(sizes: Sizes, rewards: &[u64; 64], table: &mut [[u64; 64]; 9])
     requires { RewardsReady sizes rewards.now × (sizes.highest ≤ 8) × (table.old ≡ blank) }
     ensures { (a : Listing) → table.new ≡ table_of (arrays sizes a rewards.now) sizes.highest 0 }

@@ -21,7 +21,7 @@ fn main(rt: HostRuntime) -> io::Result<()> {
     vectors_of(rt, &many[..count], 9)
 }
 
-// The vectors of a file, for n = 0 to last.
+// The vectors of a file, for n = 0 to last, a plain number that is handed down.
 fn vectors_of(rt: HostRuntime, bytes: &[u8], last: u64) -> io::Result<()>
     requires { last ≤ 1024 }
 {
