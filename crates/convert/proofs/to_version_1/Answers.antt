@@ -1,5 +1,5 @@
 -- `to_version_1` meets its contract: rows 1 to 12 and 16, then 17, then the room, then the moved file. Assumes nothing.
-use Rattle.std.proofs.Common.{◌≡◌, ◌∙◌, sym, ap, ◌-◌, ◌+◌, length, arith}
+use Rattle.std.proofs.Common.{◌≡◌, ◌∙◌, refl, sym, ap, ◌-◌, ◌+◌, length, arith}
 use Rattle.std.proofs.lemmas.Result.{err_from_is_err_and}
 use Rattle.definitions.specs.Sums.{any_above}
 use Rattle.definitions.specs.File.{state_count, weight_field}
@@ -33,7 +33,7 @@ returns-then-weight_elsewhere c =
     let lent = length c.args.out.now in
     let elsewhere = sym (asked (goal.at.returns-then-weight_elsewhere c).After-weight_elsewhere) ∙ c.if-weight_elsewhere.true in
     let answer = weighed_elsewhere s lent (passed (goal.at.returns-then-weight_elsewhere c).In_ok-model) elsewhere in
-    record { answer = rw answer; bytes = rw answer; moved = answer_back s (λ i. omega (arith, c.type_inv.file i)) lent }
+    record { answer = rw answer refl; bytes = rw answer refl; moved = answer_back s (λ i. omega (arith, c.type_inv.file i)) lent }
 
 pub returns-then-out-file : goal.returns-then-out-file
 returns-then-out-file c =
