@@ -10,7 +10,6 @@ use definitions::NotDealt;
 const LAST_SEED: u64 = u32::MAX as u64;
 
 // What a text says of M or R: a number of 64 bits, or 0 where it says none.
-#[tactic(auto, unfolding(definitions::specs::Dealing::dimension_in))]
 fn dimension(text: &[u8]) -> u64
     ensures { result ≡ dimension_in text.now }
 {

@@ -11,14 +11,20 @@ use Rattle.definitions.specs.Rules.{saying, answer_of}
 use Rattle.laws.specs.DealingLaws.{by_seed, for_seed, for_none}
 use Rattle.numerals.specs.Reading.{at_most}
 use Rattle.deal.proofs.deal.Goals as goal
-use Rattle.deal.proofs.deal.Goals.{In-Some}
+use Rattle.deal.proofs.deal.Goals.{In-Some, In_default}
 
 -- the seed number that the text says
 said : (c : In-Some) → seed_in c.args.seed.now ≡ Some c.in-Some.n
 unfolding seed_in
 said c = sym c.number_of.ensures ∙ c.in-Some.is
 
--- a refusal that is handed on says the same
+-- where the text says no number, there is no seed number
+none_said : (c : In_default) → seed_in c.args.seed.now ≡ None
+unfolding seed_in
+none_said c = sym c.in_default.ensures
+
+-- what is handed on says the same:
+-- a refusal its row, and a file its count
 handed_on : (r : Result ℕ Refusal) (o : Result ℕ NotDealt) → MatchResult r (λ x. o ≡ Ok x) (λ e. IsErrAnd o (λ d. d ≡ Refused e)) → dealing_answer o ≡ saying Some (answer_of r)
 handed_on (Ok x) o h = rw h
 handed_on (Err e) o h = let is = err_from_is_err_and o h in rw (is.1, is.2)
