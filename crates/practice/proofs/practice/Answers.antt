@@ -7,7 +7,8 @@ use Rattle.laws.specs.PracticeLaws.{dealing_refused, no_room_to_deal, dealing_ac
 use Rattle.practice.proofs.practice.Goals as goal
 use Rattle.practice.proofs.practice.Goals.{In_ok-judge_dimensions}
 
--- past the rows M and R are in range
+-- past the rows M and R are accepted,
+-- so that they are in range and M × M is at most 64 × 64
 passed : (c : In_ok-judge_dimensions) → let args = c.args in judged_by (dimensions args.states args.highest) ≡ accepted tt
 passed c = sym c.in_ok-judge_dimensions.ensures
 
