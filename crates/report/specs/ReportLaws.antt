@@ -24,7 +24,7 @@ unfolding sheet_of
 sheet_taken run M R block cells room = rw (length-take-le block cells room, lines_taken M R block block cells (omega arith))
 
 -- of an answer with the file's states, moments, block and cells
-answer_sheet : (s : List ℕ) {a : Answer Run} {M R block : ℕ} {cells old new : List ℕ} {n : ℕ} → a ≡ outcome s lent_cells → M ≡ state_count s → R ≡ highest_moment s → block ≡ block_size s → cells ≡ cells_after a s (replicate lent_cells 0) → Printed (sheet_of a M R block cells) old new n → Printed (sheet s) old new n
+pub answer_sheet : (s : List ℕ) {a : Answer Run} {M R block : ℕ} {cells old new : List ℕ} {n : ℕ} → a ≡ outcome s lent_cells → M ≡ state_count s → R ≡ highest_moment s → block ≡ block_size s → cells ≡ cells_after a s (replicate lent_cells 0) → Printed (sheet_of a M R block cells) old new n → Printed (sheet s) old new n
 unfolding sheet
 answer_sheet s e em er eb ec p = rw (em, er, eb, ec, e) at p
 
@@ -38,16 +38,18 @@ pub refused_sheet : (s : List ℕ) (k : ℕ) {shown n : ℕ} {old new : List ℕ
 unfolding sheet_of cells_after
 refused_sheet s k p same e = answer_sheet s {a = refused k} {cells = replicate lent_cells 0} e refl refl refl refl (rw same at p)
 
--- an accepted file's block has a row for each state, and may have one for the start
-pub accepted_shape : (s : List ℕ) (M R block : ℕ) (cells : List ℕ) → AcceptedFile s (length cells) → M ≡ state_count s → R ≡ highest_moment s → block ≡ block_size s → Shape M R (take block cells)
+-- an accepted file's block has a row for each state, and may have one for the start, and the cells hold it
+pub accepted_shape : (s : List ℕ) (M R block : ℕ) (cells : List ℕ) → AcceptedFile s (length cells) → M ≡ state_count s → R ≡ highest_moment s → block ≡ block_size s → Shape M R (take block cells) × (block ≤ length cells)
 accepted_shape s M R block cells f em er eb =
     let rows : state_count s + distributions s ≤ state_count s + 1 = omega (arith, distributions_max s) in
-    let long : length (take block cells) ≡ block_size s = rw eb (length-take-le (block_size s) cells f.room) in
-    record {
-      states = omega (arith, f.model.framed.states_max);
-      highest = omega (arith, f.model.limits.highest_max);
-      rows = rw (long, em, er) (mul-le-mul_right (highest_moment s) rows);
-    }
+    let long : length (take block cells) ≡ block_size s = rw eb (length-take-le (block_size s) cells f.room) in (
+      record {
+        states = omega (arith, f.model.framed.states_max);
+        highest = omega (arith, f.model.limits.highest_max);
+        rows = rw (long, em, er) (mul-le-mul_right (highest_moment s) rows);
+      },
+      rw eb f.room,
+    )
 
 -- the sheet of what a buffer holds is the program's, where the buffer has room for just as much as is read
 pub held_sheet : (buffer : List ℕ) (count : ℕ) {old new : List ℕ} {n : ℕ} → length buffer ≡ read_limit → Printed (sheet (take count buffer)) old new n → (input : List ℕ) → Holds buffer count input → Printed (printed_sheet input) old new n

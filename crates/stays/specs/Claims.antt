@@ -19,7 +19,7 @@ abbrev pub start_answer : Result Latest Refusal → Answer (Unit {0})
 start_answer (Ok r) = accepted tt
 start_answer (Err e) = refused (row_of e)
 
--- a start with M states and the window size W: its answer, and its record where it is accepted
+-- a start with M states and the window size W: its answer, and its record where it is accepted. A refused start hands out no record, so that there is none to speak of.
 pub record StartClaim (M W : ℕ) (a : Result Latest Refusal) : Type 0 where
   -- "A start with M outside 1 to 64 is 4"; "22, a window size of 0 or above 256, at the start, after 4"
   pub answer : start_answer a ≡ judged_by (start_rows M W)

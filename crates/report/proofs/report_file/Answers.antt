@@ -32,7 +32,7 @@ slice_bounds-solved-end c = sym (length-take-le _ _ (omega (arith, (room (goal.a
 
 pub invariant_of-solved : goal.invariant_of-solved
 invariant_of-solved c = record {
-  shape = accepted_shape c.args.file.now _ _ _ _ (room (goal.at.invariant_of-solved c).After-block_size) c.state_count.ensures c.highest_moment.ensures c.block_size.ensures.value;
+  shape = (accepted_shape c.args.file.now _ _ _ _ (room (goal.at.invariant_of-solved c).After-block_size) c.state_count.ensures c.highest_moment.ensures c.block_size.ensures.value).0;
 }
 
 pub returns-in-Err : goal.returns-in-Err
