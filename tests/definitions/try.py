@@ -53,12 +53,11 @@ import models  # noqa: E402
 # --- All that names a definition. Those to unfold are read from the crate's specs/ (`unfoldable`). ------------
 
 HEAD = """\
-use Rattle.std.specs.Prelude.{ℕ, ◌-◌, ◌*◌, List, [], ◌∷◌, ◌≡◌, refl, length, get_or}
+use Rattle.std.specs.Prelude.{ℕ, ◌-◌, ◌*◌, List, [], ◌∷◌, ◌≡◌, refl, length, get_or, Some, None}
 use Rattle.std.proofs.Common.{arith}
 use Rattle.definitions.specs.Chain.{model_of, chain_of}
 use Rattle.definitions.specs.Rules.{accepted, refused, saying, last_time}
 use Rattle.definitions.specs.Moment.{count_after}
-use Rattle.std.specs.Prelude.{Some, None}
 use Rattle.definitions.specs.Remainders.{number_after, mean_of, share_of}
 use Rattle.definitions.specs.Written.{count_of, bytes_after}
 use Rattle.definitions.specs.Order.{Raises}
@@ -832,9 +831,10 @@ def try_right(folder, facts):
     return False, f"{said[:3000]}\ntry.py: not proved: {', '.join(names) or 'see above'}"
 
 
-# How the prover says that two sides differ, and how it shows them computed.
+# How the prover says that two sides differ, how it shows them computed, and how it spells what is no number.
 DIFFER = re.compile(r"the two types (first )?differ")
 COMPUTED = re.compile(r"computed as far as they go, the two types (?:(?:first )?differ|are `Path ).*?\(found\)", re.S)
+SPELLED = {"given": "Some", "none": "None"}
 
 
 def try_wrong(folder, wrongs):
@@ -854,7 +854,7 @@ def try_wrong(folder, wrongs):
             trouble.append(f"{name}: refused for another reason: {message.splitlines()[0][:300]}")
             continue
         kind, right, wrong = numbers[name]
-        if computed and all(re.search(rf"\b{number}\b", computed.group()) for number in (right, wrong)):
+        if computed and all(re.search(rf"\b{SPELLED.get(number, number)}\b", computed.group()) for number in (right, wrong)):
             seen.add(kind)
         elif computed:
             trouble.append(f"{name}: {wrong} for {right} is not what differs: {computed.group()[:300]}")
