@@ -256,7 +256,7 @@ def rebuilt(copy):
     edit(os.path.join(copy, "crates", "dealer", "src", "main.rt"), "give M, R and a seed number", "give M, R and a seed")
     built_anew("./practice", run("./practice", copy), (1, b"", ["practice: give M, R and a seed, as in ./practice 3 2 1234 > FILE"]), "dealer", 9)
     edit(os.path.join(copy, "crates", "calculator", "src", "main.rt"), "the input cannot be read", "the input is unreadable")
-    built_anew("./calculate", run("./calculate < /", copy), (2, b"", ["calculator: the input is unreadable"]), "calculator", 15)
+    built_anew("./calculate", run("./calculate < /", copy), (2, b"", ["calculator: the input is unreadable"]), "calculator", 16)
     expect("the edited program again", run("./calculate < /", copy), (2, b"", "calculator: the input is unreadable\n"))
 
 
