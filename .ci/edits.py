@@ -61,6 +61,9 @@ FACTS = [
 # An operator without its numbers, what the prover left open, or a type of values where no fact is asked: these differ where the proof's shape does.
 SHAPE = re.compile(r"(?:where one has|the two types are) `(?:\([^`() ]*◌[^`() ]*\)|[^`() ]*◌[^`() ]*|\?\w*)`|expected type `(?:[\w.]+\.)?(?:ℕ|ℤ|Bool|List [^`]*)`")
 
+# A note on a function's head stands at the first of its attributes.
+ATTRIBUTES = re.compile(r"(?:[ \t]*#\[.*?\]\n)+", re.S)
+
 Refusal = namedtuple("Refusal", "place name why")
 
 
@@ -70,7 +73,11 @@ def place_of(path, line, text_of):
     if path.parts[0] == "proofs" and path.name in ("Answers.antt", "Invariants.antt", "Proof.antt"):
         return path.parent.name.lstrip("+")
     if path.parts[0] == "src":
-        above = [found.name for found in contracts.functions(text_of(path)) if found.line <= line]
+        text = text_of(path)
+        lines = text.splitlines()
+        attributes = ATTRIBUTES.match("\n".join(lines[line - 1:]))
+        line += attributes.group().count("\n") if attributes else 0
+        above = [found.name for found in contracts.functions(text) if found.line <= line]
         return above[-1] if above else path.stem
     return path.stem
 
@@ -104,6 +111,7 @@ SAMPLES = [
     ("refused, as it must be: ./proofs/Law.antt:15:12: error: `law`: expected type `f 9 ≡ 53`, but this has type `f 9 ≡ f 9`", ("Law", "law", DIFFER)),
     ("refused, as it must be: ./proofs/f/Answers.antt:9:1: error: `returns`: expected type `Prim.Native.Nat.ℕ`, but this has type `lib.IntN.ℤ`", ("f", "returns", "")),
     ("refused, as it must be: note: src/lib.rt:9:1: it is not proved that what the function ensures holds when it returns (`returns`); the facts known there allow values at which this goal", ("g", "returns", COUNTEREXAMPLE)),
+    ("refused, as it must be: note: src/lib.rt:10:1: it is not proved that what the function ensures holds when it returns (`returns`); the facts known there allow values", ("h", "returns", COUNTEREXAMPLE)),
     ("refused, as it must be: note: src/lib.rt:6:9: it is not proved that what `g` requires holds at this call (`g-b-requires`); the facts known there allow values at which this goal", ("f", "g-b-requires", COUNTEREXAMPLE)),
     ("refused, as it must be: note: src/lib.rt:9:1: it is not proved that what the function ensures holds when it returns (`returns`)", ("g", "returns", "")),
     ("refused, as it must be: ./proofs/f/Answers.antt:9:1: error: `below`: `omega` stopped at a bound of its own: the goal has more than 64 parts.", ("f", "below", "")),
@@ -125,6 +133,12 @@ pub fn f() ensures { 1 ≡ 1 }
 
 // g
 pub fn g() ensures { 1 ≡ 1 }
+{
+}
+#[tactic(auto, using(
+    crate::specs::Law::law,
+))]
+fn h() ensures { 1 ≡ 1 }
 {
 }
 """
