@@ -1,11 +1,11 @@
-// The proved code's algorithm in Rust, function by function, a module for each crate: definitions, reader, refusals,
-// poisson, vectors, means, start and moments. The helper is the `muldiv` beside it: crates/muldiv's (muldiv.rs), or one in
-// u128 (wide.rs). How the rows of c are listed and added up is in `rows` beside it: as crates/arrows and vectors do it
-// (arrows.rs), or with every product (every.rs).
+// The proved code's algorithm in Rust, a module for each crate: definitions, reader, refusals, poisson, vectors, means,
+// start and moments. The helper is the `muldiv` beside it: crates/muldiv's (muldiv.rs), or one in u128 (wide.rs). How the
+// rows of c are listed and added up is in `rows` beside it: as crates/arrows and vectors do it (arrows.rs), or with every
+// product (every.rs).
 //
-// For the measurement alone: what each function is, the crates say. What differs from the Rattle source is what Rust's
-// syntax asks for, and that the loop of `row_mean` is a function of `rows`: the same arrays by value and lent, the same
-// loops.
+// For the measurement alone: what each function is, the crates say. The steps are theirs, in their order. A row's states and
+// its entries stand in two arrays here, where the crates have one of arrows, and one loop goes over the cells of a block,
+// where the crates have one over states and one over moments.
 
 use definitions::{Outcome, Run, Series};
 
