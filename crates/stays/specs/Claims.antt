@@ -1,9 +1,10 @@
 -- What is claimed of each call on a record of stays (document 02, S-12), a field for each sentence.
-use Rattle.std.specs.Prelude.{ℕ, ◌+◌, ◌*◌, ◌-◌, ◌≤◌, List, [], ◌∷◌, ◌≡◌, get_or, take, Result, Ok, Err, IfOk}
+use Rattle.std.specs.Prelude.{ℕ, ◌+◌, ◌*◌, ◌-◌, ◌≤◌, List, [], ◌∷◌, ◌≡◌, get_or, take, Result, Ok, Err}
 use Rattle.definitions.specs.declared.Refusal.{Refusal}
 use Rattle.definitions.specs.Refusal.{row_of}
 use Rattle.definitions.specs.Rules.{Answer, accepted, refused, first_held, judged_by, answer_of}
 use Rattle.definitions.specs.Stays.{Stay, start_rows, pair_rows, stay_answer, lasts, rate_in, Tallies, Tallied}
+use Rattle.stays.specs.declared.Told.{Told}
 use Rattle.stays.specs.Latest.{Latest, reached_by}
 
 -- what a record tells
@@ -14,20 +15,24 @@ told r = record { states = r.states; window = r.window; count = λ i j. get_or r
 abbrev pub Comes : Latest → ℕ → ℕ → List Stay → Type 0
 Comes r M W offered = r ≡ reached_by M W offered
 
--- what a start is answered, whatever its record
-abbrev pub start_answer : Result Latest Refusal → Answer (Unit {0})
+-- what a start is answered, and its record, which it has whatever the answer
+abbrev pub start_answer : Result Latest Told → Answer (Unit {0})
 start_answer (Ok r) = accepted tt
-start_answer (Err e) = refused (row_of e)
+start_answer (Err t) = refused (row_of t.answer)
 
--- a start with M states and the window size W: its answer, and its record where it is accepted. A refused start hands out no record, so that there is none to speak of.
-pub record StartClaim (M W : ℕ) (a : Result Latest Refusal) : Type 0 where
+abbrev pub start_record : Result Latest Told → Latest
+start_record (Ok r) = r
+start_record (Err t) = t.latest
+
+-- a start with M states and the window size W, its answer and its record
+pub record StartClaim (M W : ℕ) (a : Result Latest Told) : Type 0 where
   -- "A start with M outside 1 to 64 is 4"; "22, a window size of 0 or above 256, at the start, after 4"
   pub answer : start_answer a ≡ judged_by (start_rows M W)
   -- "a window size fixed with M at the start"
-  pub fixed : IfOk a (λ r. (r.states ≡ M) × (r.window ≡ W))
-  pub comes : IfOk a (λ r. Comes r M W [])
+  pub fixed : start_answer a ≡ accepted tt → ((start_record a).states ≡ M) × ((start_record a).window ≡ W)
+  pub comes : Comes (start_record a) M W []
   -- "counts and hours equal a fresh tally"
-  pub tallied : IfOk a (λ r. Tallied (told r) [])
+  pub tallied : Tallied (told (start_record a)) []
 
 -- a stay s offered to the record r, its answer and the next record
 pub record StayClaim (r : Latest) (s : Stay) (a : Result (Unit {0}) Refusal) (next : Latest) : Type 0 where

@@ -12,8 +12,9 @@ use Rattle.laws.specs.SumLaws.{sum_same}
 use Rattle.laws.specs.RuleLaws.{accepted_is_no_refusal, none_hold, also_refused, also_accepted}
 use Rattle.laws.specs.RowLaws.{in_range}
 use Rattle.laws.specs.StayLaws.{Pair, pair_by, Fine, fine_by, taken_none, lasts_taken, lasts_refused, counts_sum, count_max, rate_most}
+use Rattle.stays.specs.declared.Told.{Told}
 use Rattle.stays.specs.Latest.{Latest, Keeps, left, entered, empty, pushed, stayed, started, reached_by}
-use Rattle.stays.specs.Claims.{told, Comes, StartClaim, StayClaim, RateClaim}
+use Rattle.stays.specs.Claims.{told, Comes, start_answer, start_record, StartClaim, StayClaim, RateClaim}
 use Rattle.stays.specs.LatestLaws.{left_length, left_keeps, entered_keeps, empty_keeps}
 
 -- a record that accepts a stay
@@ -157,18 +158,14 @@ comes_further : (r next : Latest) (s : Stay) (M W : ℕ) (offered : List Stay) �
 unfolding reached_by
 comes_further r next s M W offered is e = is ∙ ap (λ (x : Latest). stayed x s) e
 
-module _ (M W : ℕ) where
-  pub start_refused : (e : Refusal) → refused (row_of e) ≡ judged_by (start_rows M W) → StartClaim M W (Err e)
-  start_refused e answers = record { answer = answers; fixed = tt; comes = tt; tallied = tt }
-
-  pub start_accepted : (r : Latest) → accepted tt ≡ judged_by (start_rows M W) → r ≡ empty M W → StartClaim M W (Ok r)
-  start_accepted r answers is =
-      let begun : r ≡ started M W = is ∙ sym (started_by M W (accepted tt) (sym answers)) in
+module _ (M W : ℕ) (a : Result Latest Told) where
+  pub start_claim : start_answer a ≡ judged_by (start_rows M W) → start_record a ≡ started M W → StartClaim M W a
+  start_claim answers is =
       record {
         answer = answers;
-        fixed = rw is (refl, refl);
-        comes = comes_from_start r M W begun;
-        tallied = current_tallied r [] (subst (λ (x : Latest). Current x []) (sym begun) (started_current M W));
+        fixed = λ e. rw (is, started_by M W (accepted tt) (sym answers ∙ e)) (refl, refl);
+        comes = comes_from_start (start_record a) M W is;
+        tallied = current_tallied (start_record a) [] (subst (λ (x : Latest). Current x []) (sym is) (started_current M W));
       }
 
 module _ (r : Latest) (K : Keeps r) (s : Stay) (a : Result (Unit {0}) Refusal) (next : Latest) where

@@ -57,13 +57,25 @@ impl Model for Record {
     ghost invariant = { Sound };
 }
 
+// What a refused start is answered, beside the record that it has all the same: of one state, which takes no stay.
+#[derive(Drop)]
+pub struct Told {
+    pub answer: Refusal,
+    pub latest: Record,
+}
+
 impl Record {
     // Starts a record with M states and a window size.
-    pub fn start(states: u64, window: u64) -> Result<Record, Refusal>
+    pub fn start(states: u64, window: u64) -> Result<Record, Told>
         ensures { StartClaim states window result }
     {
-        judge_start(states, window)?;
-        Ok(Record::empty(states, window as usize))
+        match judge_start(states, window) {
+            Ok(()) => Ok(Record::empty(states, window as usize)),
+            Err(answer) => Err(Told {
+                answer,
+                latest: Record::empty(1, 1),
+            }),
+        }
     }
 
     // Offers a stay to the record. One that is refused alters nothing.
