@@ -154,10 +154,6 @@ comes_from_start : (r : Latest) (M W : ℕ) → r ≡ started M W → Comes r M 
 unfolding reached_by
 comes_from_start r M W e = e
 
-comes_further : (r next : Latest) (s : Stay) (M W : ℕ) (offered : List Stay) → next ≡ stayed r s → Comes r M W offered → Comes next M W (s ∷ offered)
-unfolding reached_by
-comes_further r next s M W offered is e = is ∙ ap (λ (x : Latest). stayed x s) e
-
 module _ (M W : ℕ) (a : Result Latest Told) where
   pub start_claim : start_answer a ≡ judged_by (start_rows M W) → start_record a ≡ started M W → StartClaim M W a
   start_claim answers is =
@@ -168,27 +164,42 @@ module _ (M W : ℕ) (a : Result Latest Told) where
         tallied = current_tallied (start_record a) [] (subst (λ (x : Latest). Current x []) (sym is) (started_current M W));
       }
 
-module _ (r : Latest) (K : Keeps r) (s : Stay) (a : Result (Unit {0}) Refusal) (next : Latest) where
-  pub stay_claim : answer_of a ≡ stay_answer r.states s → next ≡ stayed r s → StayClaim r s a next
-  stay_claim answers is =
+-- a stay, of any record
+module _ (r : Latest) (s : Stay) (a : Result (Unit {0}) Refusal) (next : Latest) (answers : answer_of a ≡ stay_answer r.states s) (is : next ≡ stayed r s) where
+  pub stay_unaltered : (k : ℕ) → answer_of a ≡ refused k → next ≡ r
+  stay_unaltered k e = is ∙ stayed_by r s (refused k) (sym answers ∙ e)
+
+  pub stay_fixed : (next.states ≡ r.states) × (next.window ≡ r.window)
+  stay_fixed = rw is (stayed_fixed r s)
+
+  pub stay_comes : (M W : ℕ) (offered : List Stay) → Comes r M W offered → Comes next M W (s ∷ offered)
+  unfolding reached_by
+  stay_comes M W offered e = is ∙ ap (λ (x : Latest). stayed x s) e
+
+  pub stay_tallied : (M W : ℕ) (offered : List Stay) → Comes r M W offered → Tallied (told next) (s ∷ offered)
+  stay_tallied M W offered e = current_tallied next (s ∷ offered) (subst (λ (x : Latest). Current x (s ∷ offered)) (sym is) (stayed_current r s offered (comes_current r M W offered e)))
+
+  -- and of one that keeps its last stays
+  pub stay_claim : Keeps r → StayClaim r s a next
+  stay_claim K =
       record {
         answer = answers;
-        unaltered = λ k e. is ∙ stayed_by r s (refused k) (sym answers ∙ e);
-        fixed = rw is (stayed_fixed r s);
+        unaltered = stay_unaltered;
+        fixed = stay_fixed;
         kept = λ e.
             let passed = sym answers ∙ e in
             ap (λ (l : Latest). l.stays) (is ∙ stayed_by r s (accepted tt) passed)
             ∙ pushed_stays r K s (fine_by r.states s passed)
             ∙ first r.window K.window_low;
-        comes = λ M W offered e. comes_further r next s M W offered is e;
-        tallied = λ M W offered e. current_tallied next (s ∷ offered) (subst (λ (x : Latest). Current x (s ∷ offered)) (sym is) (stayed_current r s offered (comes_current r M W offered e)));
+        comes = stay_comes;
+        tallied = stay_tallied;
       }
     where
       first : (n : ℕ) → 1 ≤ n → s ∷ take (n - 1) r.stays ≡ take n (s ∷ r.stays)
       first zero h = absurd (omega arith)
       first (suc n) h = let back : suc n - 1 ≡ n = omega arith in ap (λ (k : ℕ). s ∷ take k r.stays) back
 
-module _ (r : Latest) (K : Keeps r) (i j : ℕ) where
+module _ (r : Latest) (i j : ℕ) where
   pub rate_refused : (e : Refusal) → judged_by (pair_rows r.states i j) ≡ refused (row_of e) → RateClaim r i j (Err e)
   rate_refused e stops =
       record {
@@ -202,13 +213,13 @@ module _ (r : Latest) (K : Keeps r) (i j : ℕ) where
     pair_read = pair_by r.states i j (none_hold (pair_rows r.states i j) (tt {0}) tt passed).0
 
     -- the count is at most the hours
-    pub few_read : (told r).count i j ≤ (told r).hours i
-    few_read =
+    pub few_read : Keeps r → (told r).count i j ≤ (told r).hours i
+    few_read K =
         let p = pair_read in
         omega (arith, count_told r K i j p.from_low p.from_high p.to_low p.to_high, hours_told r K i p.from_low p.from_high, count_max r.states i r.stays K.fine j)
 
-    pub rate_read : (x : ℕ) → x ≡ rate_of ((told r).count i j) ((told r).hours i) → RateClaim r i j (Ok x)
-    rate_read x e =
+    pub rate_read : Keeps r → (x : ℕ) → x ≡ rate_of ((told r).count i j) ((told r).hours i) → RateClaim r i j (Ok x)
+    rate_read K x e =
         let p = pair_read in
         let here : x ≡ rate_of (count_in i j r.stays) (hours_in i r.stays) = e ∙ ap₂ rate_of (count_told r K i j p.from_low p.from_high p.to_low p.to_high) (hours_told r K i p.from_low p.from_high) in
         record {
@@ -218,5 +229,5 @@ module _ (r : Latest) (K : Keeps r) (i j : ℕ) where
               sym (also_accepted (pair_rows r.states i j) tt tt _ passed ∙ ap accepted (sym (here ∙ ap (λ (l : List Stay). rate_of (count_in i j l) (hours_in i l)) same)));
           most = λ y same.
               let one : x ≡ y = cc in
-              omega (arith, one, e, rate_most ((told r).count i j) ((told r).hours i) few_read);
+              omega (arith, one, e, rate_most ((told r).count i j) ((told r).hours i) (few_read K));
         }

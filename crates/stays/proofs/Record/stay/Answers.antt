@@ -25,7 +25,7 @@ returns-in_err-judge_stay c =
     let answers = c.in_err-judge_stay.ensures in
     rw (p.1, p.2)
     (subst (λ (x : Latest). StayClaim x s (Err e) c.args.self.now) c.self.view_is
-    (stay_claim r c.self.invariant.keeps s (Err e) c.args.self.now answers (sym c.self.view_is ∙ sym (stayed_by r s (refused (row_of e)) (sym answers)))))
+    (stay_claim r s (Err e) c.args.self.now answers (sym c.self.view_is ∙ sym (stayed_by r s (refused (row_of e)) (sym answers))) c.self.invariant.keeps))
 
 pub overflow_cast-from : goal.overflow_cast-from
 overflow_cast-from c = omega (arith, fine (goal.at.overflow_cast-from c).In_ok-judge_stay, c.self.invariant.keeps.states_max)
@@ -47,4 +47,4 @@ returns c =
     let s = stay_of c.args.from c.args.to c.args.hours in
     let answers = c.in_ok-judge_stay.ensures in
     subst (λ (x : Latest). StayClaim x s (Ok tt) c.push.new.self) c.self.view_is
-    (stay_claim r c.self.invariant.keeps s (Ok tt) c.push.new.self answers (c.push.ensures ∙ ap (λ (x : Latest). pushed x s) (sym c.self.view_is) ∙ sym (stayed_by r s (accepted tt) (sym answers))))
+    (stay_claim r s (Ok tt) c.push.new.self answers (c.push.ensures ∙ ap (λ (x : Latest). pushed x s) (sym c.self.view_is) ∙ sym (stayed_by r s (accepted tt) (sym answers))) c.self.invariant.keeps)
