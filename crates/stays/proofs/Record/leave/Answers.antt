@@ -1,5 +1,5 @@
 -- `stays::Record::leave` meets its contract: the record without its oldest stay. Assumes nothing.
-use Rattle.std.proofs.Common.{◌≡◌, ◌+◌, ◌*◌, ◌-◌, ap, ◌∙◌, arith}
+use Rattle.std.proofs.Common.{◌≡◌, ◌+◌, ◌*◌, ◌-◌, ◌≤◌, get_or, ap, ◌∙◌, arith}
 use Rattle.definitions.specs.Stays.{Stay}
 use Rattle.stays.specs.Latest.{oldest, left}
 use Rattle.stays.specs.Inner.{latest_in}
@@ -23,7 +23,8 @@ cell_of-requires c =
 pub overflow_sub-self-2 : goal.overflow_sub-self-2
 overflow_sub-self-2 c =
     let facts = read (goal.at.cell_of-requires c.before.before).After-from-j in
-    rw c.cell_of.ensures.0 facts.counted_in
+    let counted : 1 ≤ get_or c.self.inside.counts c.cell_of.result 0 = rw c.cell_of.ensures.0 facts.counted_in in
+    omega arith
 
 pub overflow_sub-self-3 : goal.overflow_sub-self-3
 overflow_sub-self-3 c =

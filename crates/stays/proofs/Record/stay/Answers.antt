@@ -37,9 +37,7 @@ pub overflow_cast-hours : goal.overflow_cast-hours
 overflow_cast-hours c = omega (arith, fine (goal.at.overflow_cast-hours c).In_ok-judge_stay)
 
 pub push-requires : goal.push-requires
-push-requires c =
-    let s = stay_of c.args.from c.args.to c.args.hours in
-    subst (λ (x : Latest). Fine x.states s) c.self.view_is (fine (goal.at.push-requires c).In_ok-judge_stay)
+push-requires c = grind (arith, fine (goal.at.push-requires c).In_ok-judge_stay, ap (λ (x : Latest). x.states) c.self.view_is)
 
 pub returns : goal.returns
 returns c =
