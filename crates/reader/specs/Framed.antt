@@ -2,11 +2,17 @@
 use Rattle.std.specs.Prelude.{ℕ, ◌+◌, ◌*◌, ◌-◌, ◌≤◌, ◌<◌, ◌≡◌, refl, List, length, drop, eqb}
 use Rattle.std.proofs.Common.{arith, mul-le-mul_left, ap, length-drop, lt-ltb, le-ltb}
 use Rattle.std.proofs.Math.Decide.{dec_lt}
-use Rattle.definitions.specs.File.{state_count, row_at, place, rate_field}
+use Rattle.definitions.specs.File.{state_count, rewards_at, row_at, place, rate_field}
 use Rattle.definitions.specs.Sums.{pick}
 use Rattle.definitions.specs.Bytes.{big}
 use Rattle.laws.specs.Acceptance.{Framed}
 use Rattle.laws.specs.ByteLaws.{big_drop}
+
+-- the M rewards lie in the file, and so do M numbers from the weights' place on
+pub rewards_room : (s : List ℕ) → Framed s → rewards_at s + 4 * state_count s ≤ length s
+rewards_room s f =
+    let whole : state_count s * 1 ≤ state_count s * state_count s = mul-le-mul_left (state_count s) f.states_min in
+    omega arith
 
 -- a state's row of M − 1 rates lies in the file
 pub row_room : (s : List ℕ) (i : ℕ) → Framed s → i < state_count s → row_at s i + 4 * (state_count s - 1) ≤ length s

@@ -209,7 +209,7 @@ impl<'a> ModelFile<'a> {
 
     // M numbers of 4 bytes each from a place on, for 64 states: 0 past M.
     fn numbers_at(&self, at: usize) -> [u64; 64]
-        requires { at ≤ rewards_at self.now }
+        requires { at + 4 * state_count self.now ≤ length self.now }
         ensures { result ≡ padded (state_count self.now) (λ i. big 4 self.now (at + 4 * i)) }
     {
         let bytes = self.bytes();
@@ -220,6 +220,8 @@ impl<'a> ModelFile<'a> {
     pub fn weights(&self) -> [u64; 64]
         ensures value { result ≡ padded (state_count self.now) (weight_field self.now) }
     {
+        // Names a field, so that the proof learns that the file is framed.
+        let _ = &self.head;
         self.numbers_at(WEIGHTS_AT)
     }
 
@@ -240,6 +242,8 @@ impl<'a> ModelFile<'a> {
     pub fn rewards(&self) -> [u64; 64]
         ensures { result ≡ padded (state_count self.now) (reward_field self.now) }
     {
+        // Names a field, for the same reason.
+        let _ = &self.head;
         self.numbers_at(self.rewards_at())
     }
 
