@@ -95,10 +95,10 @@ fn starts_at_zero(times: &[u32]) -> bool
 }
 
 // Row 8: the file's time is 0, or a list of times starts with 0.
-fn without_time(file: &ModelFile, times: &[u32]) -> bool
-    ensures { result ≡ (eqb (time_field file.now) 0 || starts_at_zero times.now) }
+fn without_time(head: &Head, times: &[u32]) -> bool
+    ensures { result ≡ (eqb (time_field head.now) 0 || starts_at_zero times.now) }
 {
-    file.head.time() == 0 || starts_at_zero(times)
+    head.time() == 0 || starts_at_zero(times)
 }
 
 // Row 16: the file holds a starting distribution, and its weights do not sum to 1,000,000.
@@ -116,7 +116,7 @@ fn judge_quantities(file: &ModelFile, times: &[u32]) -> Result<u64, Refusal>
     if outside(1, MOST_TOLERANCE, file.head.tolerance()) {
         return Err(Refusal::Tolerance);
     }
-    if without_time(file, times) {
+    if without_time(&file.head, times) {
         return Err(Refusal::Time);
     }
     if misweighted(file) {

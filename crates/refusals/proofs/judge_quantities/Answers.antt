@@ -44,7 +44,9 @@ past_7 c =
 
 past_8 : (c : Else-without_time) → Left (start8 c) 2
 unfolding quantities
-past_8 c = past_7 (goal.at.Else-without_time c).Else-outside ∙ row_passes 8 _ _ _ (sym c.without_time.ensures ∙ c.if-without_time.false)
+past_8 c =
+    let is : c.file.inside.head ≡ c.args.file.now = c.file.view_is in
+    past_7 (goal.at.Else-without_time c).Else-outside ∙ row_passes 8 _ _ _ (rw is at (sym c.without_time.ensures ∙ c.if-without_time.false))
 
 past_16 : (c : Else-misweighted) → Left (start16 c) 3
 unfolding quantities
@@ -66,7 +68,9 @@ returns-then-outside c =
 
 pub returns-then-without_time : goal.returns-then-without_time
 unfolding quantities
-returns-then-without_time c = sym (past_7 (goal.at.returns-then-without_time c).Else-outside ∙ row_stops 8 _ _ _ (sym c.without_time.ensures ∙ c.if-without_time.true))
+returns-then-without_time c =
+    let is : c.file.inside.head ≡ c.args.file.now = c.file.view_is in
+    sym (past_7 (goal.at.returns-then-without_time c).Else-outside ∙ row_stops 8 _ _ _ (rw is at (sym c.without_time.ensures ∙ c.if-without_time.true)))
 
 pub returns-then-misweighted : goal.returns-then-misweighted
 unfolding quantities
