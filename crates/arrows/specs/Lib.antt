@@ -1,2 +1,3 @@
--- What the contracts of the arrows cite.
+-- What the contracts of the arrows cite, and the laws of it that callers use.
 pub mod Rows
+pub mod RowLaws

@@ -4,8 +4,6 @@ use Rattle.std.proofs.lemmas.List.Edits.{sets}
 use Rattle.definitions.specs.File.{state_count}
 use Rattle.definitions.specs.Chain.{Model, model_of, row_sum, uniform_rate, c}
 use Rattle.definitions.specs.Arrows.{falling, is_added, added_states}
-use Rattle.vectors.specs.declared.Arrow.{Arrow}
-use Rattle.vectors.specs.Arrows.{targets_of, rates_of}
 
 -- row i of a file, what stands on its diagonal, and how many places are lent
 pub record RowAsked (s : List ℕ) (i diagonal places : ℕ) : Type 0 where
@@ -15,7 +13,9 @@ pub record RowAsked (s : List ℕ) (i diagonal places : ℕ) : Type 0 where
   pub room : state_count s * state_count s ≤ places
 
 -- row i listed down to state j, in k places from the first on: with the states below j in the places after them the whole row is listed
-pub record DownTo (m : Model) (i first j k : ℕ) (arrows₀ arrows : List Arrow) : Type 0 where
+pub record DownTo (m : Model) (i first j k : ℕ) (targets₀ rates₀ targets rates : List ℕ) : Type 0 where
   pub count : k + length (falling (is_added m i) j) ≡ length (added_states m i)
-  pub in_targets : sets (targets_of arrows) (first + k) (falling (is_added m i) j) ≡ sets (targets_of arrows₀) first (added_states m i)
-  pub in_rates : sets (rates_of arrows) (first + k) (map (c m i) (falling (is_added m i) j)) ≡ sets (rates_of arrows₀) first (map (c m i) (added_states m i))
+  pub in_targets : sets targets (first + k) (falling (is_added m i) j) ≡ sets targets₀ first (added_states m i)
+  pub in_rates : sets rates (first + k) (map (c m i) (falling (is_added m i) j)) ≡ sets rates₀ first (map (c m i) (added_states m i))
+  pub same_targets : length targets ≡ length targets₀
+  pub same_rates : length rates ≡ length rates₀

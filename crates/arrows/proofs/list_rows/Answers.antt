@@ -1,5 +1,6 @@
 -- `arrows::list_rows` meets its contract: after i turns the first i rows are listed. Assumes nothing.
 use Rattle.std.proofs.Common.{◌≡◌, sym, ◌∙◌, ap, subst, List, ℕ, ◌*◌, ◌≤◌, ◌<◌, get_or, arith}
+use Rattle.std.proofs.lemmas.List.{length-map}
 use Rattle.std.proofs.lemmas.List.Edits.{sets}
 use Rattle.definitions.specs.File.{state_count}
 use Rattle.definitions.specs.Chain.{Model, model_of, row_sum}
@@ -8,7 +9,9 @@ use Rattle.laws.specs.Acceptance.{Framed}
 use Rattle.laws.specs.ListLaws.{over_none, over_store}
 use Rattle.laws.specs.ChainLaws.{get_d_padded, row_sum_le_rate}
 use Rattle.laws.specs.StoredLaws.{none_stored, stored_more}
-use Rattle.arrows.proofs.RowLaws.{rows_listed, rows_shown}
+use Rattle.vectors.specs.declared.Arrow.{Arrow}
+use Rattle.vectors.specs.Arrows.{targets_of, rates_of}
+use Rattle.arrows.specs.RowLaws.{rows_listed, rows_shown}
 use Rattle.arrows.proofs.list_rows.Invariants.{entries, number}
 use Rattle.arrows.proofs.list_rows.Goals as goal
 use Rattle.arrows.proofs.list_rows.Goals.{After-state_count-i-end, In-loop-i}
@@ -40,22 +43,22 @@ module _ (c : In-loop-i) where
   state : i < (m start).states
   state = omega (arith, read start)
 
-  -- the row's sum from the array of sums, and that E is no smaller
-  sum_at : get_or c.args.sums.now i 0 ≡ row_sum (m start) i
-  sum_at = ap (λ (l : List ℕ). get_or l i 0) c.requires.sums_value ∙ get_d_padded (m start).states (row_sum (m start)) i (framed start).states_max state
+  -- each row's sum from the array of sums, and that E is no smaller
+  sum_at : (k : ℕ) → k < (m start).states → get_or c.args.sums.now k 0 ≡ row_sum (m start) k
+  sum_at k l = ap (λ (l : List ℕ). get_or l k 0) c.requires.sums_value ∙ get_d_padded (m start).states (row_sum (m start)) k (framed start).states_max l
 
-  stays : get_or c.args.sums.now i 0 ≤ c.args.rate
-  stays = omega (arith, sum_at, c.requires.rate_value.0, row_sum_le_rate (m start) i state)
+  stays : (k : ℕ) → k < (m start).states → get_or c.args.sums.now k 0 ≤ c.args.rate
+  stays k l = omega (arith, sum_at k l, c.requires.rate_value.0, row_sum_le_rate (m start) k l)
 
 pub overflow_sub-rate : goal.overflow_sub-rate
-overflow_sub-rate c = stays (goal.at.overflow_sub-rate c).In-loop-i
+overflow_sub-rate c = let turn = (goal.at.overflow_sub-rate c).In-loop-i in stays turn _ (omega (arith, state turn))
 
 pub list_row-requires : goal.list_row-requires
 list_row-requires c =
     let turn = (goal.at.list_row-requires c).In-loop-i in
     record {
       state = state turn;
-      stays = omega (arith, sum_at turn, c.requires.rate_value.0);
+      stays = omega (arith, sum_at turn (i turn) (state turn), c.requires.rate_value.0);
       stays_max = omega (arith, c.requires.rate_value.1);
       room = omega (arith, c.requires.file_in_bounds.0);
     }
@@ -78,7 +81,12 @@ returns c =
     let targets = rw all at c.loop-i.invariant.targets in
     let rates = rw all at c.loop-i.invariant.rates in
     let counts = rw all at c.loop-i.invariant.counts in
-    let held = rows_listed m c.args.arrows.now _ c.args.counts.now _ c.requires.file_in_bounds.0 targets rates counts in
+    let before = c.args.arrows.now in
+    let held =
+    rows_listed m (targets_of before) (rates_of before) c.args.counts.now _ _ _
+    (omega (arith, c.requires.file_in_bounds.0, length-map before (λ (a : Arrow). a.target)))
+    (omega (arith, c.requires.file_in_bounds.0, length-map before (λ (a : Arrow). a.rate)))
+    targets rates counts in
     record {
       targets = targets;
       rates = rates;

@@ -1,17 +1,15 @@
 -- A row is listed state by state, and with all rows stored the arrays hold the model's rows. Assumes nothing.
 use Rattle.std.specs.Prelude.{ℕ, suc, ◌+◌, ◌*◌, ◌-◌, ◌≤◌, ◌<◌, ◌≡◌, refl, Bool, true, false, ◌||◌, List, map, eqb, ltb, length, get_or, set, drop}
-use Rattle.std.proofs.Common.{mul-le-mul_right, ◌∙◌, ap, length-drop, length-take-le, get_or-take, get_or-drop, ext_get_or, arith}
-use Rattle.std.proofs.lemmas.List.{length-map, get_or-map, map-set}
+use Rattle.std.proofs.Common.{mul-le-mul_right, ◌∙◌, ap, length-set, length-drop, length-take-le, get_or-take, get_or-drop, ext_get_or, arith}
+use Rattle.std.proofs.lemmas.List.{length-map, get_or-map}
 use Rattle.std.proofs.lemmas.List.Edits.{sets}
 use Rattle.definitions.specs.Sums.{over, rows_stored, pick}
-use Rattle.definitions.specs.Chain.{Model, Listing, row_sum, uniform_rate, c}
+use Rattle.definitions.specs.Chain.{Model, Listing, row_sum, uniform_rate, c, listed}
 use Rattle.definitions.specs.Arrows.{falling, is_added, added_states, states_in, ListsRows}
 use Rattle.laws.specs.ListLaws.{get_d_over}
 use Rattle.laws.specs.StoredLaws.{length_stored, get_d_stored}
 use Rattle.laws.specs.ArrowLaws.{falling_takes, falling_leaves, length_falling, HoldsRows}
 use Rattle.laws.proofs.ArrowLaws.{row_listed}
-use Rattle.vectors.specs.declared.Arrow.{Arrow}
-use Rattle.vectors.specs.Arrows.{targets_of, rates_of, arrow_listing}
 use Rattle.arrows.specs.Rows.{DownTo}
 
 -- what is read of the file's row is the entry of c, and is_added tells whether the row's mean adds its state
@@ -27,8 +25,8 @@ added_by m i j diagonal = by (eqb j i)
     by false = refl
 
 -- a row is listed from its highest state down: none at first, then one state after another is listed or left out
-module _ (m : Model) (i first : ℕ) (arrows₀ : List Arrow) where
-  pub none_listed : (j k : ℕ) → j ≡ m.states → k ≡ 0 → DownTo m i first j k arrows₀ arrows₀
+module _ (m : Model) (i first : ℕ) (targets₀ rates₀ : List ℕ) where
+  pub none_listed : (j k : ℕ) → j ≡ m.states → k ≡ 0 → DownTo m i first j k targets₀ rates₀ targets₀ rates₀
   unfolding added_states
   none_listed j k all none =
       let here : first + k ≡ first = omega arith in
@@ -36,21 +34,25 @@ module _ (m : Model) (i first : ℕ) (arrows₀ : List Arrow) where
         count = rw (all, none) (omega arith);
         in_targets = rw (here, all) refl;
         in_rates = rw (here, all) refl;
+        same_targets = refl;
+        same_rates = refl;
       }
 
   -- down to state 0 it is the whole row, from where it has its places
-  pub all_listed : (k : ℕ) (arrows : List Arrow) → DownTo m i first 0 k arrows₀ arrows → (place : ℕ) → first ≡ place → (k ≡ length (added_states m i)) × (targets_of arrows ≡ sets (targets_of arrows₀) place (added_states m i)) × (rates_of arrows ≡ sets (rates_of arrows₀) place (map (c m i) (added_states m i)))
+  pub all_listed : (k : ℕ) (targets rates : List ℕ) → DownTo m i first 0 k targets₀ rates₀ targets rates → (place : ℕ) → first ≡ place → (k ≡ length (added_states m i)) × (targets ≡ sets targets₀ place (added_states m i)) × (rates ≡ sets rates₀ place (map (c m i) (added_states m i)))
   unfolding falling
-  all_listed k arrows row place here = rw (← here) (omega (arith, row.count), row.in_targets, row.in_rates)
+  all_listed k targets rates row place here = rw (← here) (omega (arith, row.count), row.in_targets, row.in_rates)
 
-  module _ (j k : ℕ) (arrows : List Arrow) (before : DownTo m i first j k arrows₀ arrows) (some : 0 < j) where
-    pub left_out : is_added m i (j - 1) ≡ false → DownTo m i first (j - 1) k arrows₀ arrows
+  module _ (j k : ℕ) (targets rates : List ℕ) (before : DownTo m i first j k targets₀ rates₀ targets rates) (some : 0 < j) where
+    pub left_out : is_added m i (j - 1) ≡ false → DownTo m i first (j - 1) k targets₀ rates₀ targets rates
     left_out skipped =
         let same = falling_leaves (is_added m i) j some skipped in
         record {
           count = rw same at before.count;
           in_targets = rw same at before.in_targets;
           in_rates = rw same at before.in_rates;
+          same_targets = before.same_targets;
+          same_rates = before.same_rates;
         }
 
     module _ (taken : is_added m i (j - 1) ≡ true) where
@@ -58,13 +60,15 @@ module _ (m : Model) (i first : ℕ) (arrows₀ : List Arrow) where
       pub place_left : k < length (added_states m i)
       place_left = omega (arith, before.count, ap length (falling_takes (is_added m i) j some taken))
 
-      pub listed_next : (a : Arrow) → a.target ≡ j - 1 → a.rate ≡ c m i (j - 1) → DownTo m i first (j - 1) (k + 1) arrows₀ (set arrows (first + k) a)
-      listed_next a target rate =
+      pub listed_next : (x : ℕ) → x ≡ c m i (j - 1) → DownTo m i first (j - 1) (k + 1) targets₀ rates₀ (set targets (first + k) (j - 1)) (set rates (first + k) x)
+      listed_next x e =
           let next : first + (k + 1) ≡ suc (first + k) = omega arith in
           record {
             count = omega (arith, before.count, ap length (falling_takes (is_added m i) j some taken));
-            in_targets = rw (next, map-set (λ (a : Arrow). a.target) arrows (first + k) a, target) (rw (falling_takes (is_added m i) j some taken) at before.in_targets);
-            in_rates = rw (next, map-set (λ (a : Arrow). a.rate) arrows (first + k) a, rate) (rw (falling_takes (is_added m i) j some taken) at before.in_rates);
+            in_targets = rw next (rw (falling_takes (is_added m i) j some taken) at before.in_targets);
+            in_rates = rw (next, e) (rw (falling_takes (is_added m i) j some taken) at before.in_rates);
+            same_targets = length-set targets (first + k) (j - 1) ∙ before.same_targets;
+            same_rates = length-set rates (first + k) x ∙ before.same_rates;
           }
 
 module _ (m : Model) where
@@ -79,12 +83,8 @@ module _ (m : Model) where
   entries_fit i = omega (arith, length-map (added_states m i) (c m i), added_fits i)
 
   -- with every row stored, the arrays hold the rows
-  pub rows_listed : (before after : List Arrow) (counts k : List ℕ) → m.states * m.states ≤ length before → targets_of after ≡ rows_stored (added_states m) m.states m.states (targets_of before) → rates_of after ≡ rows_stored (λ i. map (c m i) (added_states m i)) m.states m.states (rates_of before) → k ≡ over m.states (λ i. length (added_states m i)) counts → HoldsRows m (arrow_listing after k)
-  rows_listed before after counts k room et er ek =
-      let targets = targets_of before in
-      let rates = rates_of before in
-      let troom : m.states * m.states ≤ length (targets_of before) = omega (arith, room, length-map before (λ (a : Arrow). a.target)) in
-      let rroom : m.states * m.states ≤ length (rates_of before) = omega (arith, room, length-map before (λ (a : Arrow). a.rate)) in
+  pub rows_listed : (targets rates counts t r k : List ℕ) → m.states * m.states ≤ length targets → m.states * m.states ≤ length rates → t ≡ rows_stored (added_states m) m.states m.states targets → r ≡ rows_stored (λ i. map (c m i) (added_states m i)) m.states m.states rates → k ≡ over m.states (λ i. length (added_states m i)) counts → HoldsRows m (listed t r k)
+  rows_listed targets rates counts t r k troom rroom et er ek =
       record {
         target_room = omega (arith, troom, ap length et, length_stored (added_states m) m.states targets m.states);
         rate_room = omega (arith, rroom, ap length er, length_stored entries m.states rates m.states);

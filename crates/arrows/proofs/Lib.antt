@@ -1,2 +1,0 @@
--- What the proofs of the arrows rest on.
-mod RowLaws
