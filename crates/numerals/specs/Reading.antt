@@ -21,6 +21,10 @@ pub record Read (text : List ℕ) (i value : ℕ) : Type 0 where
   pub digits : all_digits text ≡ all_digits (drop i text)
   pub worth : value_of text ≡ value * 10 ^ length (drop i text) + value_of (drop i text)
 
+-- before the first byte
+pub unread : (text : List ℕ) → Read text 0 0
+unread text = record { digits = refl; worth = omega arith }
+
 -- the text from byte i on: that byte, and the rest
 from : (text : List ℕ) (i : ℕ) → i < length text → drop i text ≡ get_or text i 0 ∷ drop (i + 1) text
 from text i h = rw (add-one i) (drop-cons text i 0 h)
@@ -39,7 +43,30 @@ module _ {text : List ℕ} {i value : ℕ} (read : Read text i value) (h : i < l
   next_at_most =
       omega (arith, next_worth, mul-le-mul_left (longer value (get_or text i 0)) (one-le-pow (length (drop (i + 1) text)) 10 (omega arith)))
 
--- what is known of a byte from what it gave
+-- a byte below 0 or above 9 is no digit; one from 0 to 9 is one
+pub below_0 : (b : ℕ) → b < 48 → is_digit b ≡ false
+below_0 b h = rw (lt-leb 48 b h)
+
+pub above_9 : (b : ℕ) → 57 < b → is_digit b ≡ false
+above_9 b h = rw (lt-leb b 57 h) (and-false (leb 48 b))
+
+pub from_0_to_9 : (b : ℕ) → 48 ≤ b → b ≤ 57 → is_digit b ≡ true
+from_0_to_9 b h k = rw (le-leb 48 b h, le-leb b 57 k)
+
+-- what the next byte gives: none where it is no digit or the limit is passed, else the longer number
+pub no_digit : (most value b : ℕ) → is_digit b ≡ false → with_digit most value b ≡ None
+unfolding with_digit
+no_digit most value b e = rw e
+
+pub past_limit : (most value b : ℕ) → most < longer value b → with_digit most value b ≡ None
+unfolding with_digit
+past_limit most value b h = rw (lt-leb (longer value b) most h, and-false (is_digit b))
+
+pub within_limit : (most value b : ℕ) → is_digit b ≡ true → longer value b ≤ most → with_digit most value b ≡ Some (longer value b)
+unfolding with_digit
+within_limit most value b e h = rw (e, le-leb (longer value b) most h)
+
+-- and back from what it gave
 was_given : (d s : Bool) (x n : ℕ) → pick (d && s) (Some x) None ≡ Some n → (d ≡ true) × (s ≡ true) × (x ≡ n)
 was_given true true x n e = (refl, refl, cc)
 was_given true false x n e = let z : ◌≡◌ {A = ℕ} 0 1 = cc in absurd (omega arith)

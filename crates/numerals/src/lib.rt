@@ -8,7 +8,6 @@ ghost use Rattle.definitions.specs.Numeral.{numeral};
 ghost use Rattle.numerals.specs.Reading.{with_digit};
 
 // The number with one digit more, where the byte is a digit and that number is at most the limit.
-#[tactic(auto, unfolding(crate::specs::Reading::with_digit))]
 fn with_digit(value: u64, byte: u8, most: u64) -> Option<u64>
     ensures { result ≡ with_digit most value byte }
 {

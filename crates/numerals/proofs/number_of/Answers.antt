@@ -1,11 +1,14 @@
 -- `number_of` meets its contract: byte by byte the text is read. Assumes nothing.
 use Rattle.std.proofs.Common.{◌∙◌, sym, arith}
 use Rattle.std.proofs.lemmas.Grind.{common_steps}
-use Rattle.numerals.specs.Reading.{goes_on, stops, read_whole, no_text}
+use Rattle.numerals.specs.Reading.{unread, goes_on, stops, read_whole, no_text}
 use Rattle.numerals.proofs.number_of.Goals as goal
 
 pub returns-then-is_empty : goal.returns-then-is_empty
 returns-then-is_empty c = let args = c.args in sym (no_text args.most args.text.now (grind (arith, common_steps)))
+
+pub loop-byte-init : goal.loop-byte-init
+loop-byte-init c = record { read = unread c.args.text.now; limit = omega arith }
 
 pub returns-in_err-value : goal.returns-in_err-value
 returns-in_err-value c =
