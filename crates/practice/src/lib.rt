@@ -36,7 +36,7 @@ fn wrapping_mul(a: u32, b: u32) -> u32
 }
 
 // The stream's number after `previous`.
-#[tactic(auto, unfolding(definitions::specs::Practice::next))]
+#[tactic(auto, using(crate::specs::Steps::next_in_parts))]
 fn next(previous: u32) -> u32
     ensures { result ≡ next previous }
 {
