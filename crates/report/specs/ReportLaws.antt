@@ -24,19 +24,19 @@ unfolding sheet_of
 sheet_taken run M R block cells room = rw (length-take-le block cells room, lines_taken M R block block cells (omega arith))
 
 -- of an answer with the file's states, moments, block and cells
-pub answer_sheet : (s : List ℕ) {a : Answer Run} {M R block : ℕ} {cells old new : List ℕ} {n : ℕ} → a ≡ outcome s lent_cells → M ≡ state_count s → R ≡ highest_moment s → block ≡ block_size s → cells ≡ cells_after a s (replicate lent_cells 0) → Printed (sheet_of a M R block cells) old new n → Printed (sheet s) old new n
+pub run_sheet : (s : List ℕ) {a : Answer Run} {M R block : ℕ} {cells old new : List ℕ} {n : ℕ} → a ≡ outcome s lent_cells → M ≡ state_count s → R ≡ highest_moment s → block ≡ block_size s → cells ≡ cells_after a s (replicate lent_cells 0) → Printed (sheet_of a M R block cells) old new n → Printed (sheet s) old new n
 unfolding sheet
-answer_sheet s e em er eb ec p = rw (em, er, eb, ec, e) at p
+run_sheet s e em er eb ec p = rw (em, er, eb, ec, e) at p
 
 -- of a run, with the cells of its block
-pub run_sheet : (s : List ℕ) (run : Run) {M R block : ℕ} {cells old new : List ℕ} {n : ℕ} → accepted run ≡ outcome s lent_cells → M ≡ state_count s → R ≡ highest_moment s → block ≡ block_size s → block ≤ length cells → cells ≡ cells_after (accepted run) s (replicate lent_cells 0) →
+pub solved_sheet : (s : List ℕ) (run : Run) {M R block : ℕ} {cells old new : List ℕ} {n : ℕ} → accepted run ≡ outcome s lent_cells → M ≡ state_count s → R ≡ highest_moment s → block ≡ block_size s → block ≤ length cells → cells ≡ cells_after (accepted run) s (replicate lent_cells 0) →
     Printed (sheet_of (accepted run) M R (length (take block cells)) (take block cells)) old new n → Printed (sheet s) old new n
-run_sheet s run {M} {R} {block} {cells} e em er eb room ec p = answer_sheet s e em er eb ec (rw (sheet_taken run M R block cells room) at p)
+solved_sheet s run {M} {R} {block} {cells} e em er eb room ec p = run_sheet s e em er eb ec (rw (sheet_taken run M R block cells room) at p)
 
 -- of a refusal with its number, which reads none of them
 pub refused_sheet : (s : List ℕ) (k : ℕ) {shown n : ℕ} {old new : List ℕ} → Printed (refused_line shown) old new n → shown ≡ k → refused k ≡ outcome s lent_cells → Printed (sheet s) old new n
 unfolding sheet_of cells_after
-refused_sheet s k p same e = answer_sheet s {a = refused k} {cells = replicate lent_cells 0} e refl refl refl refl (rw same at p)
+refused_sheet s k p same e = run_sheet s {a = refused k} {cells = replicate lent_cells 0} e refl refl refl refl (rw same at p)
 
 -- an accepted file's block has a row for each state, and may have one for the start, and the cells hold it
 pub accepted_shape : (s : List ℕ) (M R block : ℕ) (cells : List ℕ) → AcceptedFile s (length cells) → M ≡ state_count s → R ≡ highest_moment s → block ≡ block_size s → Shape M R (take block cells) × (block ≤ length cells)

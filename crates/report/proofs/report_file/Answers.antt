@@ -3,7 +3,7 @@ use Rattle.std.proofs.Common.{sym, subst, arith, length, length-take-le}
 use Rattle.definitions.specs.Sheet.{lent_cells}
 use Rattle.laws.specs.Acceptance.{AcceptedFile, accepted_file}
 use Rattle.laws.specs.MomentLaws.{run_judged}
-use Rattle.report.specs.ReportLaws.{run_sheet, refused_sheet, accepted_shape}
+use Rattle.report.specs.ReportLaws.{solved_sheet, refused_sheet, accepted_shape}
 use Rattle.report.proofs.report_file.Goals as goal
 use Rattle.report.proofs.report_file.Goals.{After-block_size, In-Ok}
 
@@ -42,4 +42,4 @@ returns-in-Err c =
 pub returns-in-Ok : goal.returns-in-Ok
 returns-in-Ok c =
     let s = c.args.file.now in
-    run_sheet s c.in-Ok.run' c.in-Ok.ensures.outcome c.state_count.ensures c.highest_moment.ensures c.block_size.ensures.value (omega (arith, (room (goal.at.returns-in-Ok c).After-block_size).room)) c.in-Ok.ensures.cells c.write_sheet-in-Ok.ensures
+    solved_sheet s c.in-Ok.run' c.in-Ok.ensures.outcome c.state_count.ensures c.highest_moment.ensures c.block_size.ensures.value (omega (arith, (room (goal.at.returns-in-Ok c).After-block_size).room)) c.in-Ok.ensures.cells c.write_sheet-in-Ok.ensures
