@@ -16,6 +16,8 @@ loop-k-init c = nothing refl
 pub put_line-requires : goal.put_line-requires
 put_line-requires c = omega (arith, c.args.solved.now.shape, numbers (goal.at.put_line-requires c).In-loop-k)
 
+-- the lines of the cells before,
+-- and the line of this cell
 pub loop-k-preserved : goal.loop-k-preserved
 unfolding figure_lines
 loop-k-preserved c =
