@@ -10,6 +10,17 @@ ghost use Rattle.writing.specs.Puts.{Puts};
 
 use definitions::Header;
 
+// A text in the place of as many bytes. Not `copy_from_slice`: that asks for memmove, and the library for C asks for no more than
+// memcpy and memset.
+fn store(bytes: &mut [u8], text: &[u8])
+    requires { length bytes.old ≡ length text.now }
+    ensures { bytes.new ≡ text.now }
+{
+    for (k, byte) in bytes.iter_mut().enumerate() {
+        *byte = text[k];
+    }
+}
+
 // What is lent, and the place in it where the next byte goes.
 #[derive(Drop)]
 pub struct Pen<'a> {
@@ -32,10 +43,9 @@ impl Pen<'_> {
         requires { self.old.at + length word.now ≤ length self.old.out.now }
         ensures { Puts word.now (length word.now) self.old self.new }
     {
-        // `copy_from_slice` asks for memmove, and the library for C asks for no more than memcpy and memset.
-        for &byte in word {
-            self.put(byte);
-        }
+        let end = self.at + word.len();
+        store(&mut self.out[self.at..end], word);
+        self.at = end;
     }
 
     // So many zeros.
