@@ -1,7 +1,8 @@
 // What the three divisions of one U(n,r) leave over, for worked solutions: of V, by E; of W, by F; of U, by n + r.
 #![tactic(auto)]
 
-ghost use Rattle.std.specs.Prelude.{◌≡◌, ◌||◌, ◌-◌};
+ghost use Rattle.std.specs.Prelude.{◌≡◌, ◌||◌, ◌-◌, ◌*◌, ◌≤◌};
+ghost use Rattle.definitions.specs.File.{state_count};
 ghost use Rattle.definitions.specs.Chain.{model_of, chain_of, uniform_rate, padded, row_sum, sizes_of};
 ghost use Rattle.definitions.specs.Rules.{answer_of, outside};
 ghost use Rattle.definitions.specs.Moment.{model_level};
@@ -14,6 +15,13 @@ ghost use Rattle.remainders.specs.Asked.{Askable};
 use definitions::{Refusal, Rests, Sizes};
 use reader::ModelFile;
 use vectors::{Arrow, LentChain, Rows};
+
+// At most this many states have their rows in a smaller array, as in the crate moments.
+const FEW_STATES: usize = 16;
+
+const FEW_PLACES: usize = FEW_STATES * FEW_STATES;
+
+const MOST_PLACES: usize = 64 * 64;
 
 // The remainders of U(n,r) at state i, counted from 0, of a chain that stands in arrays: V comes from U(n-1,r), W from U(n,r-1)
 // at i, and U from V and W. The row means that this takes are counted for nobody.
@@ -86,12 +94,13 @@ impl<'a> Accepted<'a> {
         poisson::truncate(x, file.head.tolerance(), &mut weights).level
     }
 
-    // The remainders of a question within its limits. What the file states is read into arrays.
-    fn rests(&self, asked: Question) -> Rests
-        requires { Inside (model_of self.now.file) asked.state asked.n asked.r }
+    // The remainders of a question within its limits. What the file states is read into arrays, its rows into so many places.
+    fn rests_in<const PLACES: usize>(&self, asked: Question) -> Rests
+        requires inside { Inside (model_of self.now.file) asked.state asked.n asked.r }
+        requires places { (state_count self.now.file * state_count self.now.file ≤ PLACES) × (PLACES ≤ 4096) }
         ensures { result ≡ rests_at (chain_of (model_of self.now.file)) asked.n asked.r (asked.state - 1) }
     {
-        let mut arrows = [Arrow { target: 0, rate: 0 }; 64 * 64];
+        let mut arrows = [Arrow { target: 0, rate: 0 }; PLACES];
         let mut counts = [0; 64];
         arrows::list_rows(
             &self.file,
@@ -116,6 +125,18 @@ impl<'a> Accepted<'a> {
             asked.r as usize,
             (asked.state - 1) as usize,
         )
+    }
+
+    // The same, with places enough for the rows.
+    fn rests(&self, asked: Question) -> Rests
+        requires { Inside (model_of self.now.file) asked.state asked.n asked.r }
+        ensures { result ≡ rests_at (chain_of (model_of self.now.file)) asked.n asked.r (asked.state - 1) }
+    {
+        if self.file.head.state_count() <= FEW_STATES {
+            self.rests_in::<FEW_PLACES>(asked)
+        } else {
+            self.rests_in::<MOST_PLACES>(asked)
+        }
     }
 
     // The remainders of a question, or none.
