@@ -51,14 +51,6 @@ pub returns-then-falls : goal.returns-then-falls
 unfolding listing
 returns-then-falls c = sym (past_14 (goal.at.returns-then-falls c).Else-outside ∙ row_stops 15 _ _ _ (sym c.if-falls.ensures))
 
-pub returns-in_err-judge_jumps : goal.returns-in_err-judge_jumps
-unfolding jumps
-returns-in_err-judge_jumps c =
-    let d = (goal.at.returns-in_err-judge_jumps c).Else-falls in
-    let start = start15 d in
-    let gave : c.from_residual.result ≡ Err c.in_err-judge_jumps.field-0.0 = search rules in
-    rw gave (first_refuses (last start) (blocks start ++ levels start) tt tt _ c.in_err-judge_jumps.ensures ∙ sym (past_15 d))
-
 -- past the jumps the room answers
 past_12 : (d : Else-falls) → accepted tt ≡ judged_by (last (start15 d)) → judged_by (blocks (start15 d) ++ levels (start15 d)) ≡ judged_by (listed (start15 d))
 unfolding jumps
@@ -91,3 +83,11 @@ returns c =
     sym (enough (length (times start)) start.args.levels (omega arith))
     ∙ second_answers (blocks start) (levels start) tt tt tt c.in_ok-judge_room.ensures
     ∙ past_12 d c.in_ok-judge_jumps.ensures
+
+pub returns-in_err-judge_jumps : goal.returns-in_err-judge_jumps
+unfolding jumps
+returns-in_err-judge_jumps c =
+    let d = (goal.at.returns-in_err-judge_jumps c).Else-falls in
+    let start = start15 d in
+    let gave : c.from_residual.result ≡ Err c.in_err-judge_jumps.field-0.0 = search rules in
+    rw gave (first_refuses (last start) (blocks start ++ levels start) tt tt _ c.in_err-judge_jumps.ensures ∙ sym (past_15 d))
