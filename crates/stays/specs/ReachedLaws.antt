@@ -154,6 +154,10 @@ comes_from_start : (r : Latest) (M W : ℕ) → r ≡ started M W → Comes r M 
 unfolding reached_by
 comes_from_start r M W e = e
 
+comes_further : (r next : Latest) (s : Stay) (M W : ℕ) (offered : List Stay) → next ≡ stayed r s → Comes r M W offered → Comes next M W (s ∷ offered)
+unfolding reached_by
+comes_further r next s M W offered is e = is ∙ ap (λ (x : Latest). stayed x s) e
+
 module _ (M W : ℕ) (a : Result Latest Told) where
   pub start_claim : start_answer a ≡ judged_by (start_rows M W) → start_record a ≡ started M W → StartClaim M W a
   start_claim answers is =
@@ -164,6 +168,14 @@ module _ (M W : ℕ) (a : Result Latest Told) where
         tallied = current_tallied (start_record a) [] (subst (λ (x : Latest). Current x []) (sym is) (started_current M W));
       }
 
+-- a start that is refused has the record of one state; one that is accepted, that of M states
+module _ (M W : ℕ) where
+  pub start_refused : (t : Told) → refused (row_of t.answer) ≡ judged_by (start_rows M W) → t.latest ≡ empty 1 1 → StartClaim M W (Err t)
+  start_refused t answers is = start_claim M W (Err t) answers (is ∙ sym (started_by M W (refused (row_of t.answer)) (sym answers)))
+
+  pub start_accepted : (r : Latest) → accepted tt ≡ judged_by (start_rows M W) → r ≡ empty M W → StartClaim M W (Ok r)
+  start_accepted r answers is = start_claim M W (Ok r) answers (is ∙ sym (started_by M W (accepted tt) (sym answers)))
+
 -- a stay, of any record
 module _ (r : Latest) (s : Stay) (a : Result (Unit {0}) Refusal) (next : Latest) (answers : answer_of a ≡ stay_answer r.states s) (is : next ≡ stayed r s) where
   pub stay_unaltered : (k : ℕ) → answer_of a ≡ refused k → next ≡ r
@@ -173,8 +185,7 @@ module _ (r : Latest) (s : Stay) (a : Result (Unit {0}) Refusal) (next : Latest)
   stay_fixed = rw is (stayed_fixed r s)
 
   pub stay_comes : (M W : ℕ) (offered : List Stay) → Comes r M W offered → Comes next M W (s ∷ offered)
-  unfolding reached_by
-  stay_comes M W offered e = is ∙ ap (λ (x : Latest). stayed x s) e
+  stay_comes M W offered e = comes_further r next s M W offered is e
 
   pub stay_tallied : (M W : ℕ) (offered : List Stay) → Comes r M W offered → Tallied (told next) (s ∷ offered)
   stay_tallied M W offered e = current_tallied next (s ∷ offered) (subst (λ (x : Latest). Current x (s ∷ offered)) (sym is) (stayed_current r s offered (comes_current r M W offered e)))

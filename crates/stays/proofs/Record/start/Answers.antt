@@ -1,8 +1,6 @@
 -- `stays::Record::start` meets its contract. Assumes nothing.
-use Rattle.std.proofs.Common.{sym, ◌∙◌, arith}
-use Rattle.definitions.specs.Refusal.{row_of}
-use Rattle.definitions.specs.Rules.{accepted, refused}
-use Rattle.stays.specs.ReachedLaws.{started_by, start_fits, start_claim}
+use Rattle.std.proofs.Common.{sym, arith}
+use Rattle.stays.specs.ReachedLaws.{start_fits, start_refused, start_accepted}
 use Rattle.stays.proofs.Record.start.Goals as goal
 
 pub empty-requires : goal.empty-requires
@@ -11,11 +9,7 @@ empty-requires c =
     (omega arith, omega arith, omega arith, omega arith)
 
 pub returns-in-Ok : goal.returns-in-Ok
-returns-in-Ok c =
-    let e = c.in-Ok.ensures in
-    start_claim c.args.states c.args.window _ e (c.empty.ensures ∙ sym (started_by c.args.states c.args.window (accepted tt) (sym e)))
+returns-in-Ok c = start_accepted c.args.states c.args.window _ c.in-Ok.ensures c.empty.ensures
 
 pub returns-in-Err : goal.returns-in-Err
-returns-in-Err c =
-    let e = c.in-Err.ensures in
-    start_claim c.args.states c.args.window _ e (c.empty-in-Err.ensures ∙ sym (started_by c.args.states c.args.window (refused (row_of c.in-Err.answer)) (sym e)))
+returns-in-Err c = start_refused c.args.states c.args.window _ c.in-Err.ensures c.empty-in-Err.ensures
